@@ -10,6 +10,7 @@ use serve::{Ports, Served, serve};
 use settings::Settings;
 use std::alloc::{AllocGlobal, Global};
 use std::env::Env;
+use std::fs::File;
 use std::net::{Net, TcpListener, TcpStream};
 use std::random::RandomSource;
 use std::rt::Files;
@@ -151,6 +152,8 @@ fn settings(alloc: Global, host: String, bind: String, ports: PortsOfRun) -> Set
         again: None,
         stalled: 60,
         control: None,
+        recording: None,
+        recording_key: 60,
         next: Vec::new(alloc),
     }
 }
@@ -162,7 +165,7 @@ where
         + Threads
         + Wait
         + Clock
-        + Files
+        + Files<File = File>
         + AllocGlobal
         + RandomSource
         + Env
@@ -191,7 +194,7 @@ where
         + Threads
         + Wait
         + Clock
-        + Files
+        + Files<File = File>
         + AllocGlobal
         + RandomSource
         + Env

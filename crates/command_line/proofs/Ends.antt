@@ -3,12 +3,13 @@ use Rattle.std.proofs.Common.{ℕ}
 use Rattle.serve.specs.Statuses.{IsStatus}
 use Rattle.settings.specs.declared.values.Settings.{Settings}
 use Rattle.command_line.specs.declared.task.Task.{Task}
-use Rattle.command_line.specs.declared.task.Task.TheVariants.{Replay, Serve, Control, Explain}
-use Rattle.command_line.specs.Tasks.{EndsAs, IsDone, MayEndAScript, MayEndAnAsking}
+use Rattle.command_line.specs.declared.task.Task.TheVariants.{Replay, Serve, Control, Show, Explain}
+use Rattle.command_line.specs.Tasks.{EndsAs, IsDone, MayEndAScript, MayEndAShowing, MayEndAnAsking}
 
-pub ends_as : (serves : Settings → ℕ → Type 0) (plays : ℕ → Type 0) (asks : ℕ → Type 0) (task : Task) (status : ℕ) → IsDone serves plays asks task status
-    → ((settings : Settings) (s : ℕ) → serves settings s → IsStatus s) → ((s : ℕ) → plays s → MayEndAScript s) → ((s : ℕ) → asks s → MayEndAnAsking s) → EndsAs task status
-ends_as serves plays asks Replay status done served played asked = played status done
-ends_as serves plays asks (Serve settings) status done served played asked = served settings status done
-ends_as serves plays asks Control status done served played asked = asked status done
-ends_as serves plays asks (Explain bad) status done served played asked = done
+pub ends_as : (serves : Settings → ℕ → Type 0) (plays asks shows : ℕ → Type 0) (task : Task) (status : ℕ) → IsDone serves plays asks shows task status
+    → ((settings : Settings) (s : ℕ) → serves settings s → IsStatus s) → ((s : ℕ) → plays s → MayEndAScript s) → ((s : ℕ) → asks s → MayEndAnAsking s) → ((s : ℕ) → shows s → MayEndAShowing s) → EndsAs task status
+ends_as serves plays asks shows Replay status done served played asked shown = played status done
+ends_as serves plays asks shows (Serve settings) status done served played asked shown = served settings status done
+ends_as serves plays asks shows Control status done served played asked shown = asked status done
+ends_as serves plays asks shows Show status done served played asked shown = shown status done
+ends_as serves plays asks shows (Explain bad) status done served played asked shown = done

@@ -14,6 +14,7 @@ pub is_no_task : (words rest : List Text) (status : ℕ) → words ≡ codes "se
 is_no_task words rest status line bad = record {
   no_replay = λ same. grind arith;
   no_control = λ other. grind arith;
+  no_show = λ other. grind arith;
   no_serve = λ other same. subst (λ (r : List Text). IsBadLine r status) (ap behind (sym line ∙ same)) bad;
   two_or_four = elim bad [
     | inl (inl four) ↦ inr four

@@ -71,6 +71,8 @@ values_set f words s rows of = record {
   web_origins = of.web_origins ∙ ap (λ o. unwrap_or o []) (raw_values-rows f (codes "web-origin") ∙ (ap (all_of (codes "web-origin")) rows
       ∙ all_kept (codes "web-origin") known (settled known (walk known [] nothing_held words).held).rows (without (codes "web-origin") (refl, tt))));
   control = of.control ∙ given_is f words rows (codes "control") (without (codes "control") (refl, tt));
+  recording = of.recording ∙ given_is f words rows (codes "record") (without (codes "record") (refl, tt));
+  recording_key = number_is f words rows (codes "record-key") (codes "60") (default (codes "record-key") (codes "60") ((refl, refl), tt)) _ _ _ of.recording_key;
   next = of.next ∙ ap (λ o. unwrap_or o []) (raw_values-rows f (codes "next") ∙ (ap (all_of (codes "next")) rows
       ∙ all_kept (codes "next") known (settled known (walk known [] nothing_held words).held).rows (without (codes "next") (refl, tt))));
   full_port = of.full.3;
@@ -78,6 +80,7 @@ values_set f words s rows of = record {
   full_range = of.full_places.3;
   view_range = of.view_places.3;
   stalled_range = of.stalled.3;
+  recording_key_range = of.recording_key.3;
 }
 
 -- a text for the room that spells none is bad, and so is a lack of memory

@@ -313,6 +313,8 @@ values_there c m is p =
           (value (codes "view-places") (λ e. no_text e) refl refl ((refl, refl), tt) (defaulted c m is p (codes "view-places") (omega arith, (refl, tt))));
       stalled = taken c m is p (codes "stalled") refl refl ((refl, refl), tt) (vp.Unsigned 10 600) (parser_named (codes "stalled") (vp.Unsigned 10 600) ((refl, refl), tt))
           (value (codes "stalled") (λ e. no_text e) refl refl ((refl, refl), tt) (defaulted c m is p (codes "stalled") (omega arith, (refl, tt))));
+      recording_key = taken c m is p (codes "record-key") refl refl ((refl, refl), tt) (vp.Unsigned 10 600) (parser_named (codes "record-key") (vp.Unsigned 10 600) ((refl, refl), tt))
+          (value (codes "record-key") (λ e. no_text e) refl refl ((refl, refl), tt) (defaulted c m is p (codes "record-key") (omega arith, (refl, tt))));
       web_full = web_port (codes "web-full") (λ e. no_text e) refl refl ((refl, refl), tt) ((refl, refl), tt) (matched_of (found_of m) (codes "web-full")) refl;
       web_view = web_port (codes "web-view") (λ e. no_text e) refl refl ((refl, refl), tt) ((refl, refl), tt) (matched_of (found_of m) (codes "web-view")) refl;
       again = pause (matched_of (found_of m) (codes "again")) refl;

@@ -85,9 +85,12 @@ pub record AreSetBy (words : List Text) (s : Settings) : Type 0 where
   pub again : IsPause (given words (codes "again")) s.again
   pub stalled : Spells (text_of words (codes "stalled") (codes "60")) s.stalled
   pub control : option_map string_bytes s.control ≡ given words (codes "control")
+  pub recording : option_map string_bytes s.recording ≡ given words (codes "record")
+  pub recording_key : Spells (text_of words (codes "record-key") (codes "60")) s.recording_key
   pub next : map string_bytes s.next.items ≡ all_given words (codes "next")
   pub full_port : IsIn 1 65535 s.full
   pub view_port : IsIn 1 65535 s.view
   pub full_range : IsIn 1 32 s.full_places
   pub view_range : IsIn 1 32 s.view_places
   pub stalled_range : IsIn 10 600 s.stalled
+  pub recording_key_range : IsIn 10 600 s.recording_key

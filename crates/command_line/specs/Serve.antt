@@ -83,6 +83,8 @@ options = host ∷ option (codes "host-password-file") ∷ bind ∷ full_bind
     ∷ pause (codes "again")
     ∷ seconds (codes "stalled")
     ∷ option (codes "control")
+    ∷ option (codes "record")
+    ∷ seconds (codes "record-key")
     ∷ further (codes "next") 8
     ∷ []
 

@@ -59,6 +59,7 @@ pub record HasValues (found : Found) : Type 0 where
   pub web_view : MayHavePort found (codes "web-view")
   pub again : MayHavePause found (codes "again")
   pub stalled : HasSeconds found (codes "stalled")
+  pub recording_key : HasSeconds found (codes "record-key")
 
 -- the option's text spells the number, which is in its range
 abbrev pub IsNumberOf : Found → Text → ℕ → ℕ → ℕ → Type 0
@@ -94,4 +95,6 @@ pub record AreValuesOf (found : Found) (s : Settings) : Type 0 where
   pub again : IsPause (first_value found (codes "again")) s.again
   pub stalled : IsNumberOf found (codes "stalled") 10 600 s.stalled
   pub control : option_map string_bytes s.control ≡ first_value found (codes "control")
+  pub recording : option_map string_bytes s.recording ≡ first_value found (codes "record")
+  pub recording_key : IsNumberOf found (codes "record-key") 10 600 s.recording_key
   pub next : map string_bytes s.next.items ≡ texts_in found (codes "next")

@@ -32,6 +32,7 @@ pub(crate) fn program_command<'a>(alloc: Global) -> Result<Command<'a>, AllocErr
         .subcommand_required(true)
         .subcommand(serve_command(alloc)?)?
         .subcommand(control_command(alloc)?)?
+        .subcommand(show_command(alloc)?)?
         .subcommand(replay)
 }
 
@@ -51,6 +52,36 @@ fn control_command<'a>(alloc: Global) -> Result<Command<'a>, AllocError> {
         .about("Asks something of a run that goes on, and prints the answer")
         .arg(path)?
         .arg(request)
+}
+
+/// `reflectord show`, for its help.
+fn show_command<'a>(alloc: Global) -> Result<Command<'a>, AllocError> {
+    let path = Arg::new(alloc, "recording")
+        .value_name("PATH")
+        .required(true)
+        .help("The recording");
+    let out = Arg::new(alloc, "out")
+        .value_name("OUT.png|DIR")
+        .required(true)
+        .help("The file of the picture, or with --each the folder for pictures");
+    let at = option(
+        alloc,
+        "at",
+        "HH:MM:SS",
+        "The time of the picture; else the recording's end",
+    );
+    let each = option(
+        alloc,
+        "each",
+        "SECONDS",
+        "Make a picture each so many seconds",
+    );
+    Command::new(alloc, "show")
+        .about("Makes pictures of a recording, as PNG")
+        .arg(path)?
+        .arg(out)?
+        .arg(at)?
+        .arg(each)
 }
 
 /// `reflectord serve`, whose words are those after `serve`.
@@ -176,6 +207,17 @@ fn options<'a>(alloc: Global) -> Result<Vec<Arg<'a>>, AllocError>
             "control",
             "PATH",
             "Hear an operator at a socket of this path"
+        ),
+        option(
+            alloc,
+            "record",
+            "PATH",
+            "Record all that is shown into a new file, with times as %Y-%m-%d_%H%M%S in its name"
+        ),
+        seconds(
+            alloc,
+            "record-key",
+            "How much of a recording lies between two moments at which it can be entered, from 10 to 600"
         ),
         further(alloc, "next", "Hosts that follow on the first one, up to 8"),
     ]?;

@@ -1,5 +1,5 @@
-//! The command line of reflectord: `serve` with its options, `control`, which asks something of a run, and `replay`,
-//! which plays a script from standard input. RFC 6143 has no part in it.
+//! The command line of reflectord: `serve` with its options, `control`, which asks something of a run, `show`, which
+//! makes pictures of a recording, and `replay`, which plays a script from standard input. RFC 6143 has no part in it.
 //!
 //! Memory: for clap's command and matches, for the texts that are kept, and for the text of a bad line.
 #![tactic(auto)]
@@ -10,6 +10,7 @@ mod command;
 mod law;
 mod options;
 mod program;
+mod showing;
 mod task;
 
 pub use asking::ask;
@@ -17,4 +18,5 @@ pub use bad_line::{BadLine, explain};
 pub use law::worked_lines;
 pub use options::settings;
 pub use program::{perform, run, run_words};
+pub use showing::show_words;
 pub use task::Task;

@@ -83,6 +83,8 @@ fn values(
         again: pause(matches, "again"),
         stalled: seconds(matches, "stalled"),
         control: optional_text(alloc, matches, "control")?,
+        recording: optional_text(alloc, matches, "record")?,
+        recording_key: seconds(matches, "record-key"),
         next: texts(alloc, matches, "next")?,
     })
 }

@@ -18,12 +18,15 @@ pub enum Task {
     Serve(Settings),
     /// To ask something of a run.
     Control,
+    /// To make pictures of a recording.
+    Show,
     /// Nothing that can be done: the line is explained.
     Explain(BadLine),
 }
 
 /// What the words after the program's name ask for. The first picks the program: `serve` has options, `control` a path
-/// and the words of a request, `replay` no further words; every other line is explained.
+/// and the words of a request, `show` paths and perhaps an option, `replay` no further words; every other line is
+/// explained.
 pub(crate) fn task_of(alloc: Global, words: &[String]) -> Task
     ensures { IsAsked (map string_bytes words.now) result }
 {
@@ -33,6 +36,7 @@ pub(crate) fn task_of(alloc: Global, words: &[String]) -> Task
     match first.as_str() {
         "replay" if rest.is_empty() => Task::Replay,
         "control" if rest.len() > 1 => Task::Control,
+        "show" if rest.len() > 1 => Task::Show,
         "serve" => match settings(alloc, rest) {
             Ok(settings) => Task::Serve(settings),
             Err(bad) => Task::Explain(bad),

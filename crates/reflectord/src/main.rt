@@ -4,6 +4,7 @@
 
 use std::alloc::AllocGlobal;
 use std::env::Env;
+use std::fs::File;
 use std::io::{Read, Write};
 use std::net::{Net, TcpListener, TcpStream};
 use std::process::ExitCode;
@@ -23,7 +24,7 @@ where
         + Clock
         + RandomSource
         + Env
-        + Files
+        + Files<File = File>
         + AllocGlobal
         + Print
         + Eprint

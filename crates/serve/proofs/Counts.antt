@@ -36,3 +36,22 @@ counted f xs settings told places =
     let all : length xs ≡ full + settings.view_places =
     sym (length_of_map f xs) ∙ (ap length told ∙ (length-append (replicate full Full) _ ∙ (ap (λ n. n + length (replicate settings.view_places View)) (length-replicate full Full) ∙ ap (λ n. full + n) (length-replicate settings.view_places View)))) in
     (omega (arith, all, places.2), omega (arith, all, most, places.3))
+
+-- So can they with one place more, in which the run is recorded, if it is.
+pub counted_all : {X : Type 0} (f : X → Role) (xs : List X) (settings : Settings) (recorded : Bool)
+    → map f xs ≡ (replicate (places_for Full settings) Full ++ replicate settings.view_places View) ++ (if recorded then View ∷ [] else []) → HasPlaces settings
+    → (1 ≤ length xs) × (length xs ≤ 65)
+counted_all f xs settings recorded told places =
+    let full = places_for Full settings in
+    let most : full ≤ 32 = full_most settings places in
+    let viewers = replicate full Full ++ replicate settings.view_places View in
+    let last : List Role = if recorded then View ∷ [] else [] in
+    let one : length last ≤ 1 = at_most_one recorded in
+    let count : length viewers ≡ full + settings.view_places =
+    length-append (replicate full Full) _ ∙ (ap (λ n. n + length (replicate settings.view_places View)) (length-replicate full Full) ∙ ap (λ n. full + n) (length-replicate settings.view_places View)) in
+    let all : length xs ≡ length viewers + length last = sym (length_of_map f xs) ∙ (ap length told ∙ length-append viewers last) in
+    (omega (arith, all, count, places.2), omega (arith, all, count, most, one, places.3))
+  where
+    at_most_one : (b : Bool) → length (if b then View ∷ [] else []) ≤ 1
+    at_most_one true = omega arith
+    at_most_one false = omega arith

@@ -4,8 +4,8 @@ use Rattle.std.specs.Prelude.{if◌then◌else◌}
 use Rattle.std.specs.List.{range_with_len}
 use Rattle.std.proofs.lemmas.List.{map-append}
 use Rattle.roles.specs.declared.role.Role.{Role}
-use Rattle.connections.specs.declared.lobby.TcpDoor.{TcpDoor}
-use Rattle.serve.specs.Doors.{AreNumbered}
+use Rattle.serve.specs.declared.place_door.PlaceDoor.{PlaceDoor}
+use Rattle.serve.specs.Doors.{AreNumbered, place_of}
 
 -- Behind the numbers from one on, one after the other, comes the next.
 more : (first n : ℕ) → range_with_len first (suc n) ≡ range_with_len first n ++ (first + n) ∷ []
@@ -15,13 +15,14 @@ more first (suc n) =
     ap (λ (numbers : List ℕ). first ∷ numbers) (more (first + 1) n ∙ ap (λ (number : ℕ). range_with_len (first + 1) n ++ number ∷ []) same)
 
 -- One more is added, or refused for want of memory.
-pub one_more : {R G : Type 0} (is_added : Bool) (old new : List (Role × TcpDoor R G)) (role : Role) (door : TcpDoor R G) → new ≡ (if is_added then old ++ (role, door) ∷ [] else old)
-    → door.place ≡ length old + 1 → AreNumbered old → AreNumbered new
+pub one_more : {R G : Type 0} (is_added : Bool) (old new : List (Role × PlaceDoor R G)) (role : Role) (door : PlaceDoor R G)
+    → new ≡ (if is_added then old ++ (role, door) ∷ [] else old) → place_of door ≡ length old + 1 → AreNumbered old → AreNumbered new
 one_more {R} {G} true old new role door added number numbered =
     let longer : length (old ++ (role, door) ∷ []) ≡ suc (length old) = omega (arith, length-append old ((role, door) ∷ [])) in
-    let next : door.place ≡ 1 + length old = omega (arith, number) in
-    subst (λ (doors : List (Role × TcpDoor R G)). AreNumbered doors) (sym added)
-    (map-append (λ (door : Role × TcpDoor R G). door.1.place) old ((role, door) ∷ [])
-    ∙ (ap (λ (numbers : List ℕ). numbers ++ door.place ∷ []) numbered
+    let next : place_of door ≡ 1 + length old = omega (arith, number) in
+    subst (λ (doors : List (Role × PlaceDoor R G)). AreNumbered doors) (sym added)
+    (map-append (λ (door : Role × PlaceDoor R G). place_of door.1) old ((role, door) ∷ [])
+    ∙ (ap (λ (numbers : List ℕ). numbers ++ place_of door ∷ []) numbered
     ∙ (ap (λ (n : ℕ). range_with_len 1 (length old) ++ n ∷ []) next ∙ (sym (more 1 (length old)) ∙ ap (range_with_len 1) (sym longer)))))
-one_more {R} {G} false old new role door added number numbered = subst (λ (doors : List (Role × TcpDoor R G)). AreNumbered doors) (sym added) numbered
+one_more {R} {G} false old new role door added number numbered =
+    subst (λ (doors : List (Role × PlaceDoor R G)). AreNumbered doors) (sym added) numbered

@@ -4,7 +4,11 @@ use Rattle.run_reports.specs.declared.gravity.Gravity.TheVariants.{Warning, Plai
 use Rattle.run_traits.specs.declared.event.Event.{Event}
 use Rattle.run_traits.specs.declared.event.Event.TheVariants.{HostOut, OpenToAll}
 use Rattle.serve.specs.declared.incident.Incident.{Incident}
-use Rattle.serve.specs.declared.incident.Incident.TheVariants.{Noted, MetricsListening, HostsListening, HostStopped, HostSkipped}
+use Rattle.recorder.specs.declared.news.EndReason.{EndReason}
+use Rattle.recorder.specs.declared.news.EndReason.TheVariants.{RunOver}
+use Rattle.recorder.specs.declared.news.RecordingNews.{RecordingNews}
+use Rattle.recorder.specs.declared.news.RecordingNews.TheVariants.{Begun, Ended}
+use Rattle.serve.specs.declared.incident.Incident.TheVariants.{Noted, MetricsListening, HostsListening, HostStopped, HostSkipped, Recording}
 
 -- A host that has ended by itself, or wasn't joined, is a warning, and so is a port that is open to all. Nothing else
 -- that happens at the doors is one.
@@ -13,6 +17,15 @@ event_gravity (HostOut address why) = Warning
 event_gravity (OpenToAll address way) = Warning
 event_gravity event = Plain
 
+-- A recording that ended before the run is a warning.
+abbrev pub end_gravity : EndReason → Gravity
+end_gravity RunOver = Plain
+end_gravity why = Warning
+
+abbrev pub news_gravity : RecordingNews → Gravity
+news_gravity Begun = Plain
+news_gravity (Ended end) = end_gravity end.why
+
 -- A host that was left because the run was asked to stop, or for its next host, is no warning either.
 abbrev pub gravity_for : Incident → Gravity
 gravity_for (Noted event) = event_gravity event.now
@@ -20,3 +33,4 @@ gravity_for (MetricsListening address) = Plain
 gravity_for (HostsListening address) = Plain
 gravity_for (HostStopped address cut) = Plain
 gravity_for (HostSkipped address skip) = Plain
+gravity_for (Recording path news) = news_gravity news.now

@@ -9,6 +9,9 @@ use Rattle.run_control.specs.Doors.{is_open}
 use Rattle.run_reports.specs.declared.counters.ByRole.{ByRole}
 use Rattle.run_reports.specs.declared.counters.Counters.{Counters}
 use Rattle.run_reports.specs.declared.counters.Lag.{Lag}
+use Rattle.run_reports.specs.declared.counters.Recorded.{Recorded}
+use Rattle.recorder.specs.declared.standing.Standing.{Standing}
+use Rattle.recorder.specs.declared.standing.Standing.TheVariants.{Awaited, Begun, Ended, Failed}
 use Rattle.run_reports.specs.declared.happenings.HappeningCounts.{HappeningCounts}
 use Rattle.settings.specs.ByRole.{places_for}
 use Rattle.settings.specs.declared.values.Settings.{Settings}
@@ -52,9 +55,16 @@ pub record IsLag (numbers : List ℕ) (lag : Lag) : Type 0 where
   pub nine_tenths : lag.nine_tenths ≡ tenths_of ordered 9
   pub all : lag.all ≡ tenths_of ordered 10
 
--- The numbers of a run that stands so, in which that has happened. It has these places, and so many inputs of viewers
--- wait and were dropped.
-pub record AreCounters (run_card : RunCard) (counts : HappeningCounts) (places : ByRole) (inputs : Inputs) (counters : Counters) : Type 0 where
+-- What is counted of a recording that stands so, whose file took so many bytes.
+abbrev pub recorded_as : Standing → ℕ → Recorded
+recorded_as Awaited bytes = record { is_on = false; has_failed = false; bytes = bytes }
+recorded_as (Begun since) bytes = record { is_on = true; has_failed = false; bytes = bytes }
+recorded_as Ended bytes = record { is_on = false; has_failed = false; bytes = bytes }
+recorded_as (Failed kind) bytes = record { is_on = false; has_failed = true; bytes = bytes }
+
+-- The numbers of a run that stands so, in which that has happened. It has these places, so many inputs of viewers wait
+-- and were dropped, and that is counted of its recording.
+pub record AreCounters (run_card : RunCard) (counts : HappeningCounts) (places : ByRole) (inputs : Inputs) (recorded : Recorded) (counters : Counters) : Type 0 where
   pub is_joined : counters.is_joined ≡ is_some run_card.host
   pub silent_seconds : counters.silent_seconds ≡ seconds_from run_card.heard run_card.now
   pub joins : counters.joins ≡ counts.joins
@@ -67,9 +77,10 @@ pub record AreCounters (run_card : RunCard) (counts : HappeningCounts) (places :
   pub bytes : counters.bytes ≡ run_card.totals.bytes
   pub waiting : counters.waiting ≡ inputs.waiting
   pub dropped : counters.dropped ≡ inputs.dropped
+  pub recorded_is : counters.recorded ≡ recorded
   pub lag : IsLag (updates_behind run_card) counters.lag
 
 -- What a machine is answered from: these numbers, and whether an operator lets nobody in.
-pub record IsWatched (run_card : RunCard) (counts : HappeningCounts) (places : ByRole) (inputs : Inputs) (watched : Watched) : Type 0 where
-  pub counters : AreCounters run_card counts places inputs watched.counters
+pub record IsWatched (run_card : RunCard) (counts : HappeningCounts) (places : ByRole) (inputs : Inputs) (recorded : Recorded) (watched : Watched) : Type 0 where
+  pub counters : AreCounters run_card counts places inputs recorded watched.counters
   pub is_drained : watched.is_drained ≡ not (is_open run_card.entry)

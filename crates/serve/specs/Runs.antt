@@ -1,5 +1,5 @@
 -- What is known of a run that `serve` ran, and how its exit status says how the run ended (own).
-use Rattle.std.specs.Prelude.{◌≡◌, ◌⊎◌, ◌++◌, ℕ, List, Option, Some, None, IfSome, Result, Ok, Err, is_some, replicate, true}
+use Rattle.std.specs.Prelude.{◌≡◌, ◌⊎◌, ◌++◌, ℕ, List, [], ◌∷◌, if◌then◌else◌, Option, Some, None, IfSome, Result, Ok, Err, is_some, replicate, true}
 use Rattle.fault.specs.declared.kinds.Fault.{Fault}
 use Rattle.roles.specs.declared.role.Role.{Role}
 use Rattle.roles.specs.declared.role.Role.TheVariants.{Full, View}
@@ -18,9 +18,13 @@ use Rattle.serve.specs.declared.ended.Served.{Served}
 use Rattle.serve.specs.declared.order.Cut.{Cut}
 use Rattle.serve.specs.declared.trouble.Trouble.{Trouble}
 
--- The roles of the places: as many of each as the settings say, and those with full control come first.
+-- The roles of the viewers' places: as many of each as the settings say, and those with full control come first.
+abbrev pub viewer_roles : Settings → List Role
+viewer_roles settings = replicate (places_for Full settings) Full ++ replicate settings.view_places View
+
+-- The roles of all places: those of the viewers, and, where the run is recorded, one more that looks on.
 abbrev pub roles_for : Settings → List Role
-roles_for settings = replicate (places_for Full settings) Full ++ replicate settings.view_places View
+roles_for settings = viewer_roles settings ++ (if is_some settings.recording then View ∷ [] else [])
 
 -- A run by these settings: its room has their size, or that of its first host's screen; its hosts are joined with a
 -- password exactly where the settings have a file for one; its places have their roles; and its viewers are answered in

@@ -3,6 +3,11 @@ use Rattle.std.specs.Prelude.{◌≡◌, ◌-◌, ◌/◌, List, ℕ}
 use Rattle.std.specs.String.{string_bytes}
 use Rattle.run_reports.specs.declared.report.HostReport.{HostReport}
 use Rattle.run_reports.specs.declared.report.ViewerReport.{ViewerReport}
+use Rattle.run_reports.specs.declared.report.RecordingReport.{RecordingReport}
+use Rattle.run_reports.specs.declared.report.RecordingState.{RecordingState}
+use Rattle.run_reports.specs.declared.report.RecordingState.TheVariants as state
+use Rattle.recorder.specs.declared.standing.Standing.{Standing}
+use Rattle.recorder.specs.declared.standing.Standing.TheVariants as standing
 use Rattle.roles.specs.declared.role.Role.TheVariants.{Full, View}
 use Rattle.settings.specs.ByRole.{places_for}
 use Rattle.settings.specs.declared.values.Settings.{Settings}
@@ -13,6 +18,13 @@ use Rattle.serve.specs.declared.control.Control.{Control}
 
 abbrev pub seconds_from : ℕ → ℕ → ℕ
 seconds_from since now = (now - since) / 1000
+
+-- How a recording stands, and for how many seconds it has gone on.
+abbrev pub told_of : ℕ → Standing → RecordingState × ℕ
+told_of now standing.Awaited = (state.Awaited, 0)
+told_of now (standing.Begun since) = (state.On, seconds_from since now)
+told_of now standing.Ended = (state.Ended, 0)
+told_of now (standing.Failed kind) = (state.Failed, 0)
 
 -- The report of a viewer, with this text as its address, when so many updates were put: the viewer is behind by those
 -- that it wasn't shown.
@@ -36,6 +48,11 @@ pub record IsHostReport (card : HostCard) (address : List ℕ) (run_card : RunCa
   pub seconds : report.seconds ≡ seconds_from card.since run_card.now
   pub silent : report.silent ≡ seconds_from run_card.heard run_card.now
   pub updates : report.updates ≡ run_card.updates
+
+-- The report of a recording that stands so, whose file took so many bytes.
+pub record IsRecordingReport (standing : Standing) (bytes now : ℕ) (report : RecordingReport) : Type 0 where
+  pub is : (report.state, report.seconds) ≡ told_of now standing
+  pub bytes_are : report.bytes ≡ bytes
 
 -- An operator is told of as many places of each role as the settings say.
 abbrev pub HasPlacesFor : Settings → Control → Type 0

@@ -248,6 +248,11 @@ impl Display for Advice<'_> {
                 "can't listen at {}{said}; is it a file of another kind, or another reflector's?",
                 shown(&settings.control)
             ),
+            Stage::Record => write!(
+                f,
+                "can't record into a new file {}{said}; no file is written over, and its index ends in .fbi",
+                shown(&settings.recording)
+            ),
             Stage::ListenHost(number) => write!(
                 f,
                 "can't listen at {}{said}; is it this machine's, and does no other program or host have the port?",

@@ -25,6 +25,7 @@ use run_reports::Gravity;
 use settings::Settings;
 use std::alloc::{AllocGlobal, Global};
 use std::env::Env;
+use std::fs::File;
 use std::rt::Files;
 use std::sync::Wait;
 use std::time::Clock;
@@ -101,7 +102,7 @@ where
 #[tactic(auto, using(crate::proofs::Asking::nobody))]
 pub fn serve<R>(rt: R, alloc: Global, settings: &Settings, ports: &mut Ports) -> Served
 where
-    R: Runtime + Files + AllocGlobal + Env + Eprint,
+    R: Runtime + Files<File = File> + AllocGlobal + Env + Eprint,
     requires { HasPlaces settings.now }
     ensures ports { AsksForAll settings.now ports.old ports.new }
     ensures status { IsStatus result.status }
@@ -121,7 +122,7 @@ where
         &journal,
         settings,
         move || -> Result<Ended, Trouble>
-            requires { HasPlaces settings.now × IfOk opened (λ opened. (is_some opened.password ≡ is_some settings.now.host_password) × AreBoth settings.now opened.entrances.full opened.entrances.view) }
+            requires { HasPlaces settings.now × IfOk opened (λ opened. (is_some opened.password ≡ is_some settings.now.host_password) × AreBoth settings.now opened.entrances.full opened.entrances.view × (is_some opened.tape ≡ is_some settings.now.recording)) }
             ensures { IfOk result (λ ended. IsEndBy settings.entry.now ended) }
         { run_watched(rt, alloc, settings, opened?, &log) },
     )

@@ -7,6 +7,7 @@ use crate::order::{Cut, Skip};
 use crate::state::state;
 use crate::writer_reach::WriterReach;
 use connections::Desk;
+use recorder::Recording;
 use run_control::{Outcome, Request};
 use std::alloc::Global;
 use std::io::{ErrorKind, Read, Write};
@@ -52,6 +53,8 @@ pub(crate) struct Control {
     /// How many places there are for viewers of each role.
     pub(crate) full_places: u64,
     pub(crate) view_places: u64,
+    /// How the recording stands, if the run is recorded.
+    pub(crate) recording: Option<Arc<Recording, Global>>,
     pub(crate) lifeline: Arc<Lifeline<Cut, Skip>, Global>,
 }
 

@@ -1,15 +1,16 @@
 //! A run's numbers, from where they are counted.
 
 ghost use Rattle.std.specs.Prelude.{◌≡◌, ◌≤◌, IfOk};
-ghost use Rattle.serve.specs.Numbers.{AreCounters, IsLag, places_by_role, tenths_of, updates_behind, viewers_by_role, viewers_of};
+ghost use Rattle.serve.specs.Numbers.{AreCounters, IsLag, places_by_role, recorded_as, tenths_of, updates_behind, viewers_by_role, viewers_of};
 
 use connections::{RunCard, ViewerCard};
+use recorder::{Recording, Standing};
 use reflector::InputCounts;
 use roles::Role;
-use run_reports::{ByRole, Counters, HappeningCounts, Lag};
+use run_reports::{ByRole, Counters, HappeningCounts, Lag, Recorded};
 use settings::{Settings, places_of};
 use std::alloc::{AllocError, Global};
-use std::sync::Wait;
+use std::sync::{Arc, Wait};
 
 /// How many places there are for each role.
 pub(crate) fn places_by_role(settings: &Settings) -> ByRole
@@ -35,6 +36,29 @@ pub(crate) fn inputs_of<R: Wait>(rt: &R, counts: &InputCounts) -> Inputs
     Inputs {
         waiting: counts.waiting(rt) as u64,
         dropped: counts.dropped(),
+    }
+}
+
+/// What is counted of a recording that stands so, for machines.
+fn recorded_as(standing: Standing, bytes: u64) -> Recorded
+    ensures { result ≡ recorded_as standing bytes }
+{
+    Recorded {
+        is_on: matches!(standing, Standing::Begun(_)),
+        has_failed: matches!(standing, Standing::Failed(_)),
+        bytes,
+    }
+}
+
+/// What is counted of the recording, as it stands now: of a run that isn't recorded, nothing.
+pub(crate) fn recorded_of<R: Wait>(rt: &R, recording: &Option<Arc<Recording, Global>>) -> Recorded {
+    match recording {
+        Some(recording) => recorded_as(recording.standing(rt), recording.bytes()),
+        None => Recorded {
+            is_on: false,
+            has_failed: false,
+            bytes: 0,
+        },
     }
 }
 
@@ -87,15 +111,16 @@ fn viewers_by_role(viewers: &[ViewerCard]) -> ByRole
 }
 
 /// The numbers of a run that stands so, in which that has happened, with these places, and with these counts of its
-/// viewers' input. It fails where memory is refused for them.
+/// viewers' input and of its recording. It fails where memory is refused for them.
 pub(crate) fn counters_of(
     alloc: Global,
     run_card: &RunCard,
     counts: &HappeningCounts,
     places: ByRole,
     inputs: Inputs,
+    recorded: Recorded,
 ) -> Result<Counters, AllocError>
-    ensures { IfOk result (λ counters. AreCounters run_card.entry.now counts.now places inputs counters) }
+    ensures { IfOk result (λ counters. AreCounters run_card.entry.now counts.now places inputs recorded counters) }
 {
     Ok(Counters {
         is_joined: run_card.host.is_some(),
@@ -110,6 +135,7 @@ pub(crate) fn counters_of(
         bytes: run_card.totals.bytes,
         waiting: inputs.waiting,
         dropped: inputs.dropped,
+        recorded,
         lag: lag_of(alloc, run_card)?,
     })
 }

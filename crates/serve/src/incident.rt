@@ -1,9 +1,10 @@
 //! What a run's log is told: what happens at the doors and at the host, and what only the run knows.
 
 ghost use Rattle.std.specs.Prelude.{◌≡◌};
-ghost use Rattle.serve.specs.Gravities.{gravity_for};
+ghost use Rattle.serve.specs.Gravities.{end_gravity, gravity_for};
 
 use crate::order::{Cut, Skip};
+use recorder::{EndReason, RecordingEnd, RecordingNews};
 use run_reports::Gravity;
 use run_traits::{Event, Log};
 use std::net::SocketAddr;
@@ -21,6 +22,8 @@ pub(crate) enum Incident<'a> {
     HostStopped(Option<SocketAddr>, Cut),
     /// The host was left because the run was asked for its next one, as the `Skip` shows.
     HostSkipped(Option<SocketAddr>, Skip),
+    /// This happens to the recording at this path.
+    Recording(&'a str, &'a RecordingNews),
 }
 
 /// Who is told what happens in a run. No clause says what becomes of it.
@@ -29,14 +32,25 @@ pub(crate) trait RunLog: Log {
     fn note_incident(&self, incident: &Incident<'_>);
 }
 
+/// How grave it is that a recording ended so: it is a warning, unless the run ended.
+fn end_gravity(end: &RecordingEnd) -> Gravity
+    ensures { result ≡ end_gravity end.now.why }
+{
+    match end.why {
+        EndReason::RunOver => Gravity::Plain,
+        _ => Gravity::Warning,
+    }
+}
+
 /// How grave it is that this happens: a host that has ended by itself, or wasn't joined, is a warning, and so is a port
-/// that is open to all.
+/// that is open to all, and a recording that ended before the run.
 pub(crate) fn gravity_of(incident: &Incident<'_>) -> Gravity
     ensures { result ≡ gravity_for incident.now }
 {
     match incident {
         Incident::Noted(Event::HostOut { .. }) => Gravity::Warning,
         Incident::Noted(Event::OpenToAll { .. }) => Gravity::Warning,
+        Incident::Recording(_, RecordingNews::Ended(end)) => end_gravity(end),
         _ => Gravity::Plain,
     }
 }

@@ -8,6 +8,7 @@ use fault::Fault;
 use jiff::Timestamp;
 use link::Record;
 use notify::standard_error_has_room;
+use recorder::{EndReason, RecordingNews};
 use roles::Role;
 use run_reports::{Gravity, Ledger, Paper, prefix_of};
 use run_traits::{Event, Parting, PlaceId, Visit, Way};
@@ -339,6 +340,37 @@ impl Display for Line<'_> {
     }
 }
 
+/// What a line says of a recording.
+#[derive(Drop)]
+struct RecordingLine<'a> {
+    path: &'a str,
+    news: &'a RecordingNews,
+}
+
+impl Display for RecordingLine<'_> {
+    fn fmt<W: fmt::Write>(&self, f: &mut Formatter<W>) -> fmt::Result {
+        let path = Quoted {
+            bytes: self.path.as_bytes(),
+        };
+        let end = match self.news {
+            RecordingNews::Begun => return write!(f, "recording path=\"{path}\""),
+            RecordingNews::Ended(end) => end,
+        };
+        write!(
+            f,
+            "recorded path=\"{path}\" seconds={} answers={} bytes={} why=\"",
+            end.lasted.as_secs(),
+            end.answers,
+            end.bytes
+        )?;
+        match end.why {
+            EndReason::RunOver => f.write_str("run over\""),
+            EndReason::File(kind) => write!(f, "file: {kind}\""),
+            EndReason::Fault(fault) => write!(f, "fault {}: {fault}\"", fault.number()),
+        }
+    }
+}
+
 impl Display for Words<'_> {
     fn fmt<W: fmt::Write>(&self, f: &mut Formatter<W>) -> fmt::Result {
         match self.incident {
@@ -351,6 +383,10 @@ impl Display for Words<'_> {
             }
             Incident::HostsListening(address) => {
                 write!(f, "listening for=hosts address={address}")
+            }
+            Incident::Recording(path, news) => {
+                let line = RecordingLine { path, news };
+                write!(f, "{line}")
             }
             Incident::HostStopped(address, _cut) => {
                 let place = AddressOrDash { address: *address };

@@ -9,7 +9,7 @@ ghost use Rattle.serve.specs.Runs.{IsEndBy};
 
 use crate::bound::Ports;
 use crate::callers::open_callers;
-use crate::counters::{Inputs, counters_of, inputs_of, places_by_role};
+use crate::counters::{Inputs, counters_of, inputs_of, places_by_role, recorded_of};
 use crate::ended::Ended;
 use crate::entries::{Entrances, open_all};
 use crate::incident::{Incident, RunLog};
@@ -17,15 +17,18 @@ use crate::password::password_of;
 use crate::run::run;
 use crate::runtime::{REQUEST_STACK, Runtime};
 use crate::sentry::Sentry;
+use crate::tape::{Tape, standing_of, tape_of};
 use crate::trouble::{Stage, Trouble};
 use connections::{Desk, HostListener, RunCard};
 use fault::Fault;
 use metrics_site::{Watched, answer_one};
+use recorder::Recording;
 use reflector::InputCounts;
 use run_control::Entry;
-use run_reports::{ByRole, HappeningCounts};
+use run_reports::{ByRole, HappeningCounts, Recorded};
 use settings::{Settings, metrics_address_of};
 use std::alloc::{AllocError, AllocGlobal, Global};
+use std::fs::File;
 use std::hash::RandomState;
 use std::net::{Net, TcpListener, TcpStream};
 use std::random::RandomSource;
@@ -68,17 +71,19 @@ fn open_metrics<R: Net<Stream = TcpStream, Listener = TcpListener>, G: RunLog>(
     }
 }
 
-/// What a run begins with: the hosts' password, if one is known, and its ports: where people come in, where machines
-/// are answered, if they are, and where hosts call, by their numbers.
+/// What a run begins with: the hosts' password, if one is known; its ports: where people come in, where machines are
+/// answered, if they are, and where hosts call, by their numbers; and the recording that is to be made, if one is.
 #[derive(Drop)]
 pub(crate) struct Opened<'a> {
     pub(crate) password: Option<Password>,
     pub(crate) entrances: Entrances<'a>,
     machines: Option<TcpListener>,
     callers: Vec<Option<HostListener>>,
+    pub(crate) tape: Option<Tape>,
 }
 
-/// Reads the hosts' password, if there is one, and then listens for people, for machines, and for hosts that call.
+/// Reads the hosts' password, if there is one, then listens for people, for machines, and for hosts that call, and at
+/// last makes the files of the recording, if there is to be one.
 #[tactic(auto, using(crate::proofs::Asking::nobody, crate::proofs::Asking::people_alone, crate::proofs::Asking::machines_too, crate::proofs::Asking::with_hosts))]
 pub(crate) fn open_ports<'a, R, G>(
     rt: &R,
@@ -88,26 +93,35 @@ pub(crate) fn open_ports<'a, R, G>(
     log: &G,
 ) -> Result<Opened<'a>, Trouble>
 where
-    R: Net<Stream = TcpStream, Listener = TcpListener> + Files + AllocGlobal + Copy + Drop,
+    R: Net<Stream = TcpStream, Listener = TcpListener>
+        + Files<File = File>
+        + Clock
+        + AllocGlobal
+        + Copy
+        + Drop,
     G: RunLog,
     ensures asked { AsksForAll settings.now ports.old ports.new }
     ensures both { IfOk result (λ opened. AreBoth settings.now opened.entrances.full opened.entrances.view) }
     ensures password { IfOk result (λ opened. is_some opened.password ≡ is_some settings.now.host_password) }
     ensures machines { IfOk result (λ opened. is_some opened.machines ≡ is_some settings.now.metrics) }
+    ensures tape { IfOk result (λ opened. is_some opened.tape ≡ is_some settings.now.recording) }
 {
     let password = password_of(rt, alloc, settings)?;
     let entrances = open_all(rt, alloc, settings, ports, log)?;
     let machines = open_metrics(rt, settings, ports, log)?;
     let callers = open_callers(rt, alloc, settings, ports, log)?;
+    let tape = tape_of(rt, alloc, settings)?;
     Ok(Opened {
         password,
         entrances,
         machines,
         callers,
+        tape,
     })
 }
 
-/// What a machine is answered from, of a run that stands so, in which that has happened, with these places and inputs.
+/// What a machine is answered from, of a run that stands so, in which that has happened, with these places and inputs, and
+/// this recording.
 /// It fails where memory is refused for that.
 fn watched_of(
     alloc: Global,
@@ -115,10 +129,11 @@ fn watched_of(
     counts: &HappeningCounts,
     places: ByRole,
     inputs: Inputs,
+    recorded: Recorded,
 ) -> Result<Watched, AllocError>
-    ensures { IfOk result (λ watched. IsWatched run_card.entry.now counts.now places inputs watched) }
+    ensures { IfOk result (λ watched. IsWatched run_card.entry.now counts.now places inputs recorded watched) }
 {
-    let counters = counters_of(alloc, run_card, counts, places, inputs)?;
+    let counters = counters_of(alloc, run_card, counts, places, inputs, recorded)?;
     let is_drained = run_card.entry != Entry::Open;
     Ok(Watched::new(alloc, counters, is_drained))
 }
@@ -130,6 +145,7 @@ struct Sources<R: Eprint + Clock + Wait + Drop> {
     desk: Arc<Desk, Global>,
     sentry: Sentry<R>,
     input: Arc<InputCounts, Global>,
+    recording: Option<Arc<Recording, Global>>,
     places: ByRole,
     keys: RandomState,
 }
@@ -140,7 +156,15 @@ impl<R: Eprint + Clock + Wait + Drop> Sources<R> {
         let run_card = self.desk.look(rt, self.alloc)?;
         let counts = self.sentry.counts();
         let inputs = inputs_of(rt, &self.input);
-        Ok(watched_of(self.alloc, &run_card, &counts, self.places, inputs)?)
+        let recorded = recorded_of(rt, &self.recording);
+        Ok(watched_of(
+            self.alloc,
+            &run_card,
+            &counts,
+            self.places,
+            inputs,
+            recorded,
+        )?)
     }
 
     /// Answers one machine that has connected.
@@ -177,6 +201,7 @@ fn start_metrics<R>(
     desk: &Arc<Desk, Global>,
     sentry: &Sentry<R>,
     input: &Arc<InputCounts, Global>,
+    recording: Option<Arc<Recording, Global>>,
 ) -> Result<(), Trouble>
 where
     R: Eprint + Threads + Wait + Clock + RandomSource + Copy + Drop + Send + 'static,
@@ -202,6 +227,7 @@ where
         desk,
         sentry,
         input,
+        recording,
         places: places_by_role(settings),
         keys,
     };
@@ -224,10 +250,11 @@ pub(crate) fn run_watched<R>(
     log: &Sentry<R>,
 ) -> Result<Ended, Trouble>
 where
-    R: Runtime + Eprint + Files,
+    R: Runtime + Eprint + Files<File = File>,
     requires places { HasPlaces settings.now }
     requires password { is_some opened.password ≡ is_some settings.now.host_password }
     requires entries { AreBoth settings.now opened.entrances.full opened.entrances.view }
+    requires tape { is_some opened.tape ≡ is_some settings.now.recording }
     ensures { IfOk result (λ ended. IsEndBy settings.now ended) }
 {
     let Opened {
@@ -235,13 +262,15 @@ where
         entrances,
         machines,
         callers,
+        tape,
     } = opened;
     let Ok(input) = Arc::new(alloc, InputCounts::new()) else {
         return Err(Trouble::new(Stage::Start, Fault::Memory));
     };
     let desk = entrances.view.lobby.desk();
-    start_metrics(rt, alloc, settings, machines, desk, log, &input)?;
+    let recording = standing_of(&tape)?;
+    start_metrics(rt, alloc, settings, machines, desk, log, &input, recording)?;
     run(
-        rt, alloc, settings, password, entrances, callers, input, log,
+        rt, alloc, settings, password, entrances, callers, tape, input, log,
     )
 }

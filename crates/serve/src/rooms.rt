@@ -1,21 +1,24 @@
 //! Places for viewers, and who lets them in.
 
-ghost use Rattle.std.specs.Prelude.{◌≡◌, ◌+◌, ◌++◌, ◌<◌, ◌∷◌, [], length, replicate, IfErr, IfOk, OnOk};
+ghost use Rattle.std.specs.Prelude.{◌≡◌, ◌+◌, ◌++◌, ◌<◌, ◌∷◌, [], if◌then◌else◌, is_some, length, replicate, IfErr, IfOk, OnOk};
 ghost use Rattle.std.specs.Arc.{arc_value};
 ghost use Rattle.fault.specs.declared.kinds.Fault.TheVariants.{Memory};
 ghost use Rattle.settings.specs.ByRole.{HasPlaces, places_for};
-ghost use Rattle.roles.specs.declared.role.Role.TheVariants.{Full};
+ghost use Rattle.roles.specs.declared.role.Role.TheVariants.{Full, View};
 ghost use Rattle.serve.specs.Doors.{AreDoorsFor, AreBoth, AreNumbered, HaveTheirRoles, IsFullEntry, roles_in};
 
+use crate::incident::RunLog;
 use crate::open::Entry;
+use crate::place_door::PlaceDoor;
 use crate::runtime::{Runtime, STACK};
+use crate::tape::Recorder;
 use crate::trouble::{Stage, Trouble};
 use connections::{Everyone, Lobby, RoleCaller, Seat, TcpDoor, TcpEntry, TcpPorter, WriterSeat};
 use fault::Fault;
 use roles::Role;
 use run_traits::{HostCount, Log};
 use settings::{Settings, places_of};
-use std::alloc::Global;
+use std::alloc::{AllocError, Global};
 use std::io;
 use std::net::Net;
 use std::sync::{Arc, Wait};
@@ -25,16 +28,21 @@ use std::time::{Clock, Duration};
 /// For how long viewers are waited for once the host has ended, in milliseconds.
 const GOODBYE_MILLIS: u64 = 1_000;
 
-/// The doors of all places with their roles, and where each place's thread waits.
+/// The doors of all places of viewers with their roles, and where each place's thread waits. They are of the type that the
+/// recorder's door has, too.
 #[derive(Drop)]
-pub(crate) struct Rooms<R: Wait + Clock + Drop, G: Log + Drop> {
-    pub(crate) doors: Vec<(Role, TcpDoor<R, G>)>,
+pub(crate) struct Rooms<R: Wait + Clock + Drop + Copy + Send, G: RunLog + Drop + Send> {
+    pub(crate) doors: Vec<(Role, PlaceDoor<R, G>)>,
     pub(crate) seats: Vec<Arc<Seat, Global>>,
     pub(crate) ghost told: { HaveTheirRoles doors.items },
     pub(crate) ghost numbered: { AreNumbered doors.items },
 }
 
-impl<R: Wait + Clock + Drop + Copy + Net, G: Log + Clone + Drop> Rooms<R, G> {
+impl<R, G> Rooms<R, G>
+where
+    R: Wait + Clock + Drop + Copy + Net + Send,
+    G: RunLog + Clone + Drop + Send,
+{
     /// Rooms without any place.
     pub(crate) fn new(alloc: Global) -> Rooms<R, G>
         ensures doors { result.doors.items ≡ [] }
@@ -67,7 +75,7 @@ impl<R: Wait + Clock + Drop + Copy + Net, G: Log + Clone + Drop> Rooms<R, G> {
         let lobby = Arc::try_clone(&entry.lobby)?;
         let role = lobby.role();
         let door = TcpDoor::new(rt, alloc, lobby, seat, place, log.clone()?);
-        self.doors.push((role, door))?;
+        self.doors.push((role, PlaceDoor::of_viewers(door)))?;
         Ok(())
     }
 
@@ -124,7 +132,7 @@ impl<R: Wait + Clock + Drop + Copy + Net, G: Log + Clone + Drop> Rooms<R, G> {
 
 /// The places that the settings say, whose viewers come in by these entries.
 #[tactic(auto, using(crate::proofs::Counts::full_most, crate::proofs::Counts::entry_places))]
-pub(crate) fn rooms_of<R: Wait + Clock + Drop + Copy + Net, G: Log + Clone + Drop>(
+pub(crate) fn rooms_of<R, G>(
     rt: R,
     alloc: Global,
     settings: &Settings,
@@ -132,6 +140,9 @@ pub(crate) fn rooms_of<R: Wait + Clock + Drop + Copy + Net, G: Log + Clone + Dro
     view: &Entry<'_>,
     log: &G,
 ) -> Result<Rooms<R, G>, Trouble>
+where
+    R: Wait + Clock + Drop + Copy + Net + Send,
+    G: RunLog + Clone + Drop + Send,
     requires entries { AreBoth settings.now full.now view.now }
     requires places { HasPlaces settings.now }
     ensures doors { IfOk result (λ rooms. AreDoorsFor settings.now rooms.doors.items) }
@@ -142,6 +153,31 @@ pub(crate) fn rooms_of<R: Wait + Clock + Drop + Copy + Net, G: Log + Clone + Dro
     rooms.add_full(rt, alloc, settings, full, log)?;
     rooms.add_all(rt, alloc, view, log)?;
     Ok(rooms)
+}
+
+/// The doors of all places with their roles, and where their threads wait: those of the viewers, and behind them that of
+/// the recorder, if there is one.
+#[tactic(auto, using(crate::proofs::Roles::one_more))]
+pub(crate) fn all_doors<R, G>(
+    rooms: Rooms<R, G>,
+    recorder: Option<Recorder<R, G>>,
+) -> Result<(Vec<(Role, PlaceDoor<R, G>)>, Vec<Arc<Seat, Global>>), AllocError>
+where
+    R: Wait + Clock + Drop + Copy + Send,
+    G: RunLog + Drop + Send,
+    ensures roles { IfOk result (λ all. roles_in all.0.items ≡ roles_in rooms.doors.items ++ (if is_some recorder then View ∷ [] else [])) }
+    ensures told { IfOk result (λ all. HaveTheirRoles all.0.items) }
+{
+    let Rooms {
+        mut doors,
+        mut seats,
+    } = rooms;
+    let Some(Recorder { door, seat }) = recorder else {
+        return Ok((doors, seats));
+    };
+    doors.push((Role::View, PlaceDoor::of_recorder(door)))?;
+    seats.push(seat)?;
+    Ok((doors, seats))
 }
 
 /// Everyone that is woken by news: the hosts' writer at its seat, and the places' threads at theirs. `count` counts

@@ -9,8 +9,8 @@ ghost use Rattle.settings.specs.ByRole.{HasPlaces};
 ghost use Rattle.settings.specs.Rooms.{FitsInto, IsRoomFor};
 ghost use Rattle.reflector.specs.Course.{IsReflected};
 ghost use Rattle.serve.specs.Turns.{endless};
-ghost use Rattle.serve.specs.Runs.{IsEndBy, IsRunBy};
-ghost use Rattle.serve.specs.Doors.{AreDoorsFor, AreBoth};
+ghost use Rattle.serve.specs.Runs.{IsEndBy, IsRunBy, roles_for};
+ghost use Rattle.serve.specs.Doors.{AreDoorsFor, AreBoth, roles_in};
 
 use crate::control::Control;
 use crate::ended::{Ended, Reflected};
@@ -20,14 +20,15 @@ use crate::host_text::texts_of;
 use crate::incident::RunLog;
 use crate::meet::{Met, Terms};
 use crate::order::Cut;
-use crate::rooms::{Rooms, everyone_of, rooms_of};
+use crate::rooms::{Rooms, all_doors, everyone_of, rooms_of};
 use crate::runtime::Runtime;
 use crate::start::{control_of, lifeline_of, was_cut};
 use crate::supply::Supply;
+use crate::tape::{Recorder, Tape, clear, recorder_of, standing_of};
 use crate::trouble::{Stage, Trouble};
 use crate::web::shared;
 use crate::writer_reach::WriterReach;
-use connections::{Desk, HostListener, WriterSeat};
+use connections::{Desk, HostListener, Seat, WriterSeat};
 use fault::Fault;
 use host_turns::{Ending, HostEnds, Hosts, RunScreen};
 use joined_runs::Runs;
@@ -39,6 +40,7 @@ use run_traits::{Alarm, Door, Log};
 use settings::{Settings, room_of, runs_of};
 use shared_screen::{Naming, Opened, Publishes};
 use std::alloc::{AllocError, Global};
+use std::fs::File;
 use std::marker::Brand;
 use std::rt::Files;
 use std::sync::{Arc, Wait};
@@ -73,7 +75,7 @@ where
     requires history { history.seen.book ≡ J.book }
     requires fits { (joined.w ≤ room.width) × (joined.h ≤ room.height) }
     requires size { (room.width ≡ J.width) × (room.height ≡ J.height) }
-    requires doors { (1 ≤ length doors.items) × (length doors.items ≤ 64) }
+    requires doors { (1 ≤ length doors.items) × (length doors.items ≤ 65) }
     requires roles { All (λ door. D.is_for door.1 door.0) doors.items }
     requires joins { ∥ Joins room.password unused (L.state ends.reader) joined ∥₁ }
     requires writer { L.state ends.writer ≡ unused }
@@ -123,20 +125,22 @@ fn run_screen_of(
     }
 }
 
-/// Starts all threads, with the places that the settings say, and waits until the last host has ended. It hands out
+/// Starts all threads, with a place behind each of these doors, and waits until the last host has ended. It hands out
 /// what reading or joining that host answered, with what shows that the run was run. Where the first host is to be
 /// tried again, no end of a host is the last. The first host's links have no deadline; with one, the run would end ten
 /// seconds after it began.
-fn reflect<G, R>(
+fn reflect<D, G, R>(
     rt: R,
     alloc: Global,
     settings: &Settings,
     supply: Supply<R, G>,
     met: Met<R>,
-    rooms: Rooms<R, G>,
+    doors: Vec<(Role, D)>,
+    seats: Vec<Arc<Seat, Global>>,
     writer: WriterReach,
 ) -> Result<Reflected, Fault>
 where
+    D: Door + Send + 'static,
     G: RunLog + Drop + Send + 'static,
     R: Runtime,
     requires size { IsScreenSize met.joined.w met.joined.h }
@@ -144,11 +148,11 @@ where
     requires password { is_some met.password ≡ is_some settings.now.host_password }
     requires untimed { (met.reader.has_deadline ≡ false) × (met.writer.has_deadline ≡ false) }
     requires places { HasPlaces settings.now }
-    requires doors { AreDoorsFor settings.now rooms.doors.items }
+    requires doors { roles_in doors.items ≡ roles_for settings.now }
+    requires roles { All (λ door. D.is_for door.1 door.0) doors.items }
     requires again { endless (is_some supply.lifeline) supply.turns.again ≡ endless (is_some settings.now.control) settings.now.again }
     ensures { IfOk result (λ run. IsRunBy settings.now run) }
 {
-    let Rooms { doors, seats } = rooms;
     let WriterReach { seat, input } = writer;
     let everyone = everyone_of(alloc, &seat, seats, supply.desk.count())?;
     let run_screen = run_screen_of(alloc, settings, &met.joined, met.password);
@@ -188,6 +192,7 @@ fn reflect_all<G, R>(
     password: Option<Password>,
     entrances: Entrances<'_>,
     rooms: Rooms<R, G>,
+    recorder: Option<Recorder<R, G>>,
     control: Option<Control>,
     writer: WriterReach,
     log: &G,
@@ -197,11 +202,15 @@ where
     R: Runtime,
     requires places { HasPlaces settings.now }
     requires doors { AreDoorsFor settings.now rooms.doors.items }
+    requires recorder { is_some recorder ≡ is_some settings.now.recording }
     requires again { endless (is_some supply.lifeline) supply.turns.again ≡ endless (is_some settings.now.control) settings.now.again }
     requires password { is_some password ≡ is_some settings.now.host_password }
     ensures { IfOk result (λ run. IsRunBy settings.now run) }
 {
     let Ok(seats) = shared(alloc, rooms.seats.as_slice()) else {
+        return Err(Trouble::new(Stage::Start, Fault::Memory));
+    };
+    let Ok((doors, all_seats)) = all_doors(rooms, recorder) else {
         return Err(Trouble::new(Stage::Start, Fault::Memory));
     };
     let terms = Terms {
@@ -218,7 +227,7 @@ where
         control,
         log,
     )?;
-    let reflected = reflect(rt, alloc, settings, supply, met, rooms, writer);
+    let reflected = reflect(rt, alloc, settings, supply, met, doors, all_seats, writer);
     halls.close(&rt);
     match reflected {
         Ok(reflected) => Ok(reflected),
@@ -287,7 +296,7 @@ fn end_of(
 
 /// Reflects the hosts of the settings, of which this password may be known, for viewers who come in by these entries,
 /// one for each role that is served, until the last host ends or an operator stops the run, if one can. `callers` has a
-/// listener at the number of each host that calls. `input` tells how much of the viewers' input waits. It hands out how
+/// listener at the number of each host that calls. `tape` is the recording that is to be made, if one is. `input` tells how much of the viewers' input waits. It hands out how
 /// the run ended, or fails where there was trouble before.
 #[tactic(auto, using(crate::proofs::Stopping::stopped))]
 pub(crate) fn run<G, R>(
@@ -297,14 +306,16 @@ pub(crate) fn run<G, R>(
     password: Option<Password>,
     entrances: Entrances<'_>,
     callers: Vec<Option<HostListener>>,
+    tape: Option<Tape>,
     input: Arc<InputCounts, Global>,
     log: &G,
 ) -> Result<Ended, Trouble>
 where
     G: RunLog + Clone + Drop + Send + 'static,
-    R: Runtime + Files,
+    R: Runtime + Files<File = File>,
     requires places { HasPlaces settings.now }
     requires password { is_some password ≡ is_some settings.now.host_password }
+    requires tape { is_some tape ≡ is_some settings.now.recording }
     requires entries { AreBoth settings.now entrances.full entrances.view }
     ensures { IfOk result (λ ended. IsEndBy settings.now ended) }
 {
@@ -320,7 +331,15 @@ where
     else {
         return Err(Trouble::new(Stage::Start, Fault::Memory));
     };
-    let control = control_of(&rt, alloc, settings, &desk, &writer)?;
+    let standing = standing_of(&tape)?;
+    let control = match control_of(&rt, alloc, settings, &desk, &writer, standing) {
+        Ok(control) => control,
+        Err(trouble) => {
+            clear(&rt, &tape);
+            return Err(trouble);
+        }
+    };
+    let (recorder, keeper) = recorder_of(rt, alloc, settings, tape, log)?;
     let lifeline = lifeline_of(&control)?;
     let held = lifeline_of(&control)?;
     let supply = Supply::new(
@@ -334,8 +353,11 @@ where
         held,
     );
     let reflected = reflect_all(
-        rt, alloc, settings, supply, password, entrances, rooms, control, writer, log,
+        rt, alloc, settings, supply, password, entrances, rooms, recorder, control, writer, log,
     );
+    if let Some(keeper) = keeper {
+        keeper.close(&rt);
+    }
     let stopped = was_cut(&rt, &lifeline);
     end_of(settings, reflected, stopped)
 }

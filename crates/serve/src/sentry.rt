@@ -56,6 +56,7 @@ fn happening_of(incident: &Incident<'_>) -> Option<Happening> {
         Incident::Noted(event) => happening_at(event),
         Incident::MetricsListening(_) | Incident::HostsListening(_) => None,
         Incident::HostStopped(..) | Incident::HostSkipped(..) => Some(Happening::HostLeft),
+        Incident::Recording(..) => None,
     }
 }
 

@@ -12,6 +12,7 @@ use crate::trouble::{Stage, Trouble};
 use crate::writer_reach::WriterReach;
 use connections::Desk;
 use fault::Fault;
+use recorder::Recording;
 use roles::Role;
 use settings::{Settings, places_of};
 use std::alloc::{AllocError, Global};
@@ -29,6 +30,7 @@ fn prepared(
     settings: &Settings,
     desk: &Arc<Desk, Global>,
     writer: &WriterReach,
+    recording: Option<Arc<Recording, Global>>,
 ) -> Result<Control, AllocError>
     ensures { IfOk result (λ control. HasPlacesFor settings.now control) }
 {
@@ -38,18 +40,20 @@ fn prepared(
         writer: writer.another()?,
         full_places: places_of(settings, Role::Full),
         view_places: places_of(settings, Role::View),
+        recording,
         lifeline: Arc::new(alloc, Lifeline::new())?,
     })
 }
 
-/// Listens for an operator, if the settings have a path for it. Requests reach the desk of the run and the hosts'
-/// writer.
+/// Listens for an operator, if the settings have a path for it. Requests reach the desk of the run, the hosts' writer,
+/// and how the run's recording stands, if there is one.
 pub(crate) fn control_of<R: Files + Net>(
     rt: &R,
     alloc: Global,
     settings: &Settings,
     desk: &Arc<Desk, Global>,
     writer: &WriterReach,
+    recording: Option<Arc<Recording, Global>>,
 ) -> Result<Option<Control>, Trouble>
     ensures heard { IfOk result (λ control. is_some control ≡ is_some settings.now.control) }
     ensures places { IfOk result (λ control. IfSome control (λ c. HasPlacesFor settings.now c)) }
@@ -61,7 +65,7 @@ pub(crate) fn control_of<R: Files + Net>(
         Ok(listener) => listener,
         Err(error) => return Err(Trouble::of(Stage::Control, error)),
     };
-    match prepared(alloc, listener, settings, desk, writer) {
+    match prepared(alloc, listener, settings, desk, writer, recording) {
         Ok(control) => Ok(Some(control)),
         Err(_) => Err(Trouble::new(Stage::Start, Fault::Memory)),
     }

@@ -1,12 +1,15 @@
 //! How a run stands, for an operator.
 
 ghost use Rattle.std.specs.Prelude.{◌≡◌};
-ghost use Rattle.serve.specs.States.{IsHostReport, IsViewerReport, seconds_from};
+ghost use Rattle.serve.specs.States.{IsHostReport, IsRecordingReport, IsViewerReport, seconds_from};
 
 use crate::control::Reach;
 use connections::{HostCard, RunCard, ViewerCard};
+use recorder::Standing;
 use run_control::Form;
-use run_reports::{HostReport, Report, ViewerReport, state_json, state_text};
+use run_reports::{
+    HostReport, RecordingReport, RecordingState, Report, ViewerReport, state_json, state_text,
+};
 use std::alloc::{AllocError, Global};
 use std::net::SocketAddr;
 use std::sync::Wait;
@@ -63,6 +66,23 @@ fn host_report<'a>(card: &'a HostCard, address: &'a str, run_card: &RunCard) -> 
     }
 }
 
+/// What is told now of a recording that stands so, whose file took so many bytes.
+fn recording_report(standing: Standing, bytes: u64, now: u64) -> RecordingReport
+    ensures { IsRecordingReport standing bytes now result }
+{
+    let (state, seconds) = match standing {
+        Standing::Awaited => (RecordingState::Awaited, 0),
+        Standing::Begun(since) => (RecordingState::On, seconds_from(since, now)),
+        Standing::Ended => (RecordingState::Ended, 0),
+        Standing::Failed(_) => (RecordingState::Failed, 0),
+    };
+    RecordingReport {
+        state,
+        seconds,
+        bytes,
+    }
+}
+
 /// The addresses of all viewers, in their order.
 fn addresses_of(alloc: Global, viewers: &[ViewerCard]) -> Result<Vec<String>, AllocError> {
     let mut addresses = Vec::new(alloc);
@@ -110,6 +130,14 @@ pub(crate) fn state<R: Wait + Clock>(
         view_places: reach.control.view_places,
         waiting: reach.control.writer.input.waiting(rt) as u64,
         dropped: reach.control.writer.input.dropped(),
+        recording: match &reach.control.recording {
+            Some(recording) => Some(recording_report(
+                recording.standing(rt),
+                recording.bytes(),
+                run_card.now,
+            )),
+            None => None,
+        },
         viewers: viewers.as_slice(),
     };
     match form {

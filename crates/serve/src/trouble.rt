@@ -27,6 +27,8 @@ pub(crate) enum Stage {
     ListenMetrics,
     /// Listening for an operator.
     Control,
+    /// Making the files of the recording.
+    Record,
     /// Reading the file with the hosts' password.
     ReadPassword,
     /// Reading the file with the password of a role's viewers.

@@ -58,6 +58,8 @@ mod play;
 #[cfg(test)]
 mod proxied;
 #[cfg(test)]
+mod recordings;
+#[cfg(test)]
 mod refusals;
 #[cfg(test)]
 mod room;

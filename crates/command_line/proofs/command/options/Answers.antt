@@ -33,4 +33,6 @@ returns-clause-rules c =
     (also c.pause.ensures.rule
     (also c.seconds.ensures.rule
     (also c.option-9.ensures.rule
-    (also c.further.ensures.rule refl)))))))))))))))))))))))
+    (also c.option-10.ensures.rule
+    (also c.seconds-2.ensures.rule
+    (also c.further.ensures.rule refl)))))))))))))))))))))))))
