@@ -1,12 +1,11 @@
 #!/usr/bin/env python3
-"""Recordings and the pictures that they show at times, in Python: shown.py FOLDER
+"""Recordings and the pictures that they show at times, in Python: shown.py FOLDER PICTURES
 
-Makes, in the folder of `crates/show_trial`, the recordings in `data/` and the lines of `stdin`, and in
-`/tmp/shown.pictures` the pictures that these lines ask for, in the form of `png_trial`'s lines. The recordings come of
-the texts of RFB and of FBS 001.000 alone; the host and its screen are those of `pictures.py`. It shares no code with
-the crates.
+Makes, in the folder of `crates/show_trial`, the recordings in `data/` and the lines of `stdin`, and in the file
+PICTURES the pictures that these lines ask for, in the form of `png_trial`'s lines. The recordings come of the texts of
+RFB and of FBS 001.000 alone; the host and its screen are those of `pictures.py`. It shares no code with the crates.
 
-    tools/try-png /tmp/shown.pictures FILES      compares the files that `show_trial` printed with the pictures
+    tools/try-png PICTURES FILES      compares the files that `show_trial` printed with the pictures
 """
 
 import importlib.util
@@ -124,7 +123,7 @@ def main():
         lines.append("print ./%s.png" % second)
         wants.append("%d %d %s" % (host.w, host.h, pictures.runs(host.screens[messages])))
     open(folder + "/stdin", "w").write("\n".join(lines) + "\n")
-    open("/tmp/shown.pictures", "w").write("\n".join(wants) + "\n")
+    open(sys.argv[2], "w").write("\n".join(wants) + "\n")
 
 
 main()
