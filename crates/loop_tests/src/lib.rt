@@ -4,8 +4,6 @@
 #[cfg(test)]
 mod host;
 #[cfg(test)]
-mod pair;
-#[cfg(test)]
 mod puts;
 #[cfg(test)]
 mod screen;

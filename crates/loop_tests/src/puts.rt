@@ -142,8 +142,8 @@ fn all_read<R: Threads + Sync, E: Reads + Send>(
     );
 }
 
-/// One thread puts 1,000 patches, and each of four ends reads in a thread. It answers whether each put was answered its
-/// number, and all that was read was right.
+/// One thread puts very many patches, and each of four ends reads in a thread. It answers whether each put was answered
+/// its number, and all that was read was right.
 pub fn beside<R: Threads + Sync, P: Puts + Send, E: Reads + Send>(
     rt: &R,
     alloc: Global,

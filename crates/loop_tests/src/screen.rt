@@ -2,7 +2,6 @@
 
 ghost use Rattle.std.specs.Prelude.{◌≡◌, ◌≤◌};
 
-use crate::pair::plays_pair;
 use crate::puts::{ALL, MANY, Reads, Room, beside, puts_many, puts_one};
 use fault::Fault;
 use pixel_format::Format;
@@ -91,8 +90,8 @@ struct Turn(usize, usize, &'static [Act]);
 enum Course {
     /// These turns are taken.
     Turns(&'static [Turn]),
-    /// All watchers but the last read beside very many puts, and each looks at the last number then, including the one
-    /// that never looked.
+    /// All watchers but the last read beside very many puts. Then each looks at the last number, including the one that
+    /// never looked, and cuts that many updates.
     Beside,
     /// Five patches are put, where memory may be short.
     Short,
@@ -388,13 +387,33 @@ fn all_look<J: Naming>(watchers: &mut [Watcher<J>], number: u64) -> bool {
     right
 }
 
+/// Whether each watcher, once it has met the publisher, cuts this many updates.
+fn all_cut<J: Naming + Publishes, R: Wait + Drop>(
+    publisher: &Publisher<J, R>,
+    watchers: &mut [Watcher<J>],
+    room: &mut Room,
+    number: u64,
+) -> bool
+    requires { (4 ≡ J.width) × (4 ≡ J.height) }
+{
+    let mut right = true;
+    for watcher in watchers {
+        watcher.meet(publisher);
+        let cut = watcher.cut(&ALL, &room.have, &mut room.cut);
+        right = matches!(cut, Ok(found) if found == number) && room.shows(number) && right;
+    }
+    right
+}
+
 /// Whether all is right where all watchers but the last read beside very many puts. Each watcher looks at the last
-/// number then, including the one that never looked, and once more after one more put.
+/// number then, including the one that never looked, and cuts that many updates; and it looks once more after one more
+/// put.
 fn reads_beside<J: Naming + Publishes + Send + Sync, R: Threads + Wait + Sync + Send + Copy + Drop>(
     rt: R,
     alloc: Global,
     publisher: &mut Publisher<J, R>,
     watchers: &mut [Watcher<J>],
+    room: &mut Room,
 ) -> bool
     requires { (4 ≡ J.width) × (4 ≡ J.height) }
 {
@@ -403,8 +422,9 @@ fn reads_beside<J: Naming + Publishes + Send + Sync, R: Threads + Wait + Sync + 
         None => false,
     };
     let is_seen = all_look(watchers, MANY);
+    let is_cut = all_cut(publisher, watchers, room, MANY);
     let is_put = matches!(puts_one(alloc, publisher, LAST, false), Ok(true));
-    is_read && is_seen && is_put && all_look(watchers, LAST)
+    is_read && is_seen && is_cut && is_put && all_look(watchers, LAST)
 }
 
 /// Whether the course comes out right. It fails where memory is short.
@@ -420,22 +440,27 @@ fn goes_right<J: Naming + Publishes + Send + Sync, R: Threads + Wait + Sync + Se
 {
     match course {
         Course::Turns(turns) => Ok(turns_come_right(alloc, publisher, watchers, rooms, turns)),
-        Course::Beside => Ok(reads_beside(rt, alloc, publisher, watchers)),
+        Course::Beside => match rooms.first_mut() {
+            Some(room) => Ok(reads_beside(rt, alloc, publisher, watchers, room)),
+            None => Ok(false),
+        },
         Course::Short => puts_many(alloc, publisher, 1, 5, true),
     }
 }
 
-/// Whether the last watcher looks at the last number still, and finds no publisher to cut.
+/// Whether each watcher looks at the last number still, and finds no publisher to cut.
 fn is_gone<J: Naming>(watchers: &mut [Watcher<J>], rooms: &mut [Room], last: u64) -> bool
     requires { (4 ≡ J.width) × (4 ≡ J.height) }
 {
-    match (watchers.last_mut(), rooms.last_mut()) {
-        (Some(told), Some(room)) => {
-            let cut = told.cut(&ALL, &room.have, &mut room.cut);
-            told.look() == last && matches!(cut, Err(Fault::Gone))
-        }
-        _ => false,
+    let Some(room) = rooms.last_mut() else {
+        return false;
+    };
+    let mut right = true;
+    for watcher in watchers {
+        let cut = watcher.cut(&ALL, &room.have, &mut room.cut);
+        right = watcher.look() == last && matches!(cut, Err(Fault::Gone)) && right;
     }
+    right
 }
 
 /// Room for five cuts.
@@ -456,7 +481,7 @@ fn plays<J: Naming + Publishes + Send + Sync, R: Threads + Wait + Sync + Send + 
 ) -> Result<bool, Fault>
     requires { (opened.seen.book ≡ J.book) × (4 ≡ J.width) × (4 ≡ J.height) }
 {
-    let places = trial.places.clamp(1, 65);
+    let places = trial.places.clamp(1, 66);
     let (mut publisher, mut watchers) = shared::<J, R>(rt, alloc, opened, 4, 4, places)?;
     let watchers = watchers.as_mut_slice();
     let mut rooms = make_rooms(alloc)?;
@@ -481,21 +506,16 @@ fn screens_are_shared(rt: HostRuntime) -> Result<(), Fail> {
     Ok(())
 }
 
-/// All is right with a shared screen and with a pair, at once or the next time: where memory is refused that is what is
-/// answered (`Memory`), and nothing is amiss with the memory that is there then. `rt try --test --fail-alloc N` refuses
-/// the Nth allocation, and the gate none.
+/// All is right with a shared screen, at once or the next time: where memory is refused that is what is answered
+/// (`Memory`), and nothing is amiss with the memory that is there then. `rt try --test --fail-alloc N` refuses the Nth
+/// allocation, and the gate none.
 #[test]
 fn without_memory(rt: HostRuntime) {
     let mut shared = Err(Fault::Memory);
-    let mut pair = Err(Fault::Memory);
     for _ in 0..2u64 {
         if matches!(shared, Err(Fault::Memory)) {
             shared = plays::<Brand, _>(rt, rt.alloc(), Opened::new(), &SHORT);
         }
-        if matches!(pair, Err(Fault::Memory)) {
-            pair = plays_pair::<Brand, _>(rt, rt.alloc(), Opened::new(), 2, true);
-        }
     }
     assert!(rt; matches!(shared, Ok(true)));
-    assert!(rt; matches!(pair, Ok(true)));
 }

@@ -16,7 +16,13 @@ use std::sync::Wait;
 use std::sync::atomic::Ordering;
 use std::test::Fail;
 use viewer_server::{Beginning, NoProgress, Visit, run_viewer};
-use viewer_session::Session;
+use viewer_session::{AnswerForm, Session};
+
+/// The form in which viewers are answered.
+const FORM: AnswerForm = AnswerForm {
+    runs: Runs::OfRows,
+    zrle: false,
+};
 
 /// The end of a relay that is full for this many calls, and refuses the input of this number for good. It counts what
 /// it is offered.
@@ -102,7 +108,7 @@ fn serves_anew<R: Wait + Drop>(
     sink: Sink<R>,
 ) -> Result<bool, Fault> {
     let screen = red_and_blue(alloc)?;
-    let session = Session::ready(alloc, 2, 1, case.role, Runs::OfRows, None)?;
+    let session = Session::ready(alloc, 2, 1, case.role, FORM, None)?;
     Ok(serves(rt, case, link, sink, screen, session))
 }
 

@@ -17,7 +17,7 @@ use std::sync::atomic::{AtomicU64, Ordering};
 use std::test::Fail;
 use tiles::Have;
 use viewer_server::{Beginning, NoProgress, Visit, run_viewer};
-use viewer_session::Session;
+use viewer_session::{AnswerForm, Session};
 
 /// No forms were wanted yet, or only of nobody.
 const NONE: u64 = 0;
@@ -116,7 +116,14 @@ fn wish_for<R: Wait + Drop + Copy>(
         screen: red_and_blue(alloc)?,
         wish: AtomicU64::new(NONE),
     };
-    let session = Session::ready(alloc, 2, 1, Role::View, runs, None)?;
+    let session = Session::ready(
+        alloc,
+        2,
+        1,
+        Role::View,
+        AnswerForm { runs, zrle: false },
+        None,
+    )?;
     let watch = make_watch(ALWAYS);
     let first = Beginning::of(&link, &source, &sink, &session);
     let mut visit = Visit::new(&first, link, source, sink, session);

@@ -23,4 +23,5 @@ Looks published s v found w = (length w.0 ≡ found) × IsLegal w.0 × IsBacked 
 -- stands after all that had been seen.
 abbrev pub Adds : (List Update → Type 0) → Step Change → View Change (ℕ × ℕ) → ℕ → View Change (ℕ × ℕ) → Type 0
 Adds published s v found w =
-    (w.1.1 ≡ Some (found, length w.0)) × (IsLegal w.0 × IsBacked published w.0) × (found ≡ s.old → w.0 ≡ v.0 ++ s.ask ∷ [])
+    (w.1.1 ≡ Some (found, length w.0)) × (IsLegal w.0 × IsBacked published w.0)
+    × (found ≡ s.old → w.0 ≡ v.0 ++ s.ask ∷ [])

@@ -22,4 +22,5 @@ opening = record { changes = []; refused = [] }
 -- What a refused put of this update, for this fault, may leave of a publisher: all as it was, or where memory is
 -- refused the update stays behind what was put, if none did before.
 abbrev pub IsLeftByRefusal : Update → Fault → (old new : Publishing) → Type 0
-IsLeftByRefusal u fault old new = (new ≡ old) ⊎ ((fault ≡ Memory) × (old.refused ≡ []) × (new ≡ record old { refused = u ∷ [] }))
+IsLeftByRefusal u fault old new =
+    (new ≡ old) ⊎ ((fault ≡ Memory) × (old.refused ≡ []) × (new ≡ record old { refused = u ∷ [] }))

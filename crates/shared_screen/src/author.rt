@@ -31,7 +31,10 @@ impl<J: Naming> Model for Author<J> {
 
     ghost view = { λ a. a.seen.log };
 
-    ghost invariant = { λ a. (a.seen.book ≡ J.book) × IsLegal a.seen.log × IsBacked J.published a.seen.log × (a.changes ≡ length a.seen.log) × (a.half.names ≡ a.seen.names) × (a.half.here ≡ true) × (a.half.number ≡ length a.seen.log) };
+    ghost invariant = { λ a. (a.seen.book ≡ J.book) × IsLegal a.seen.log
+        × IsBacked J.published a.seen.log × (a.changes ≡ length a.seen.log)
+        × (a.half.names ≡ a.seen.names) × (a.half.here ≡ true)
+        × (a.half.number ≡ length a.seen.log) };
 }
 
 impl<J: Naming> Author<J> {
@@ -59,7 +62,8 @@ impl<J: Naming> Author<J> {
         asked: &Offer<Change, (u64, u64), Law<J>, Nothing>,
     )
         requires few { length self.old < 2 ^ 63 }
-        requires allowed { IsLegal (self.old ++ asked.now.ask ∷ []) × IsBacked J.published (self.old ++ asked.now.ask ∷ []) }
+        requires allowed { IsLegal (self.old ++ asked.now.ask ∷ [])
+            × IsBacked J.published (self.old ++ asked.now.ask ∷ []) }
         ensures { self.new ≡ self.old ++ asked.now.ask ∷ [] }
     {
         let mut offer: Offer<Change, (u64, u64), Law<J>, Turn> = self.half.offered(asked);

@@ -11,8 +11,6 @@ use crate::front::HistoryFront;
 use crate::naming::Naming;
 use crate::pair_news::PairNews;
 use crate::published::Published;
-use crate::publishes::Publishes;
-use crate::writer::PairWriter;
 use fault::Fault;
 use left_right::ReadHandle;
 use raster::Rect;
@@ -53,13 +51,6 @@ impl<J: Naming> Eye<J> {
         }
     }
 
-    /// How many updates it knows.
-    pub fn number(&self) -> u64
-        ensures { result ≡ length self.now }
-    {
-        self.number
-    }
-
     /// A beginning of the history, which has all updates that the eye knows.
     pub(crate) fn front(&self) -> HistoryFront<J>
         ensures { Begins self.now (puts_of result) }
@@ -67,8 +58,8 @@ impl<J: Naming> Eye<J> {
         self.front.again()
     }
 
-    /// It does nothing. Its clause says that all updates that it knows, but for the last, were raised and so are
-    /// published.
+    /// It does nothing. Its clause says that the updates that the eye knows are published, up to the last but one: they
+    /// were raised.
     pub fn is_published(&self)
         ensures { ArePublished J.published (length self.now - 1) self.now }
     {
@@ -85,17 +76,6 @@ impl<J: Naming> Eye<J> {
         ensures told { Begins news.now self.new }
     {
         self.learn_first(&news.front, news.number);
-    }
-
-    /// Learns what the publisher has published, as `learn` does.
-    pub fn meet<R: Wait + Drop>(&mut self, writer: &PairWriter<J, R>)
-    where
-        J: Publishes,
-        ensures one { (self.new ≡ self.old) ⊎ (self.new ≡ writer.now) }
-        ensures mine { Begins self.old self.new }
-        ensures told { Begins writer.now self.new }
-    {
-        self.learn(&writer.news());
     }
 
     /// Learns the first `number` updates of a beginning of the history, as `learn` does.
@@ -123,7 +103,8 @@ impl<J: Naming> Eye<J> {
         ensures grows { IfOk result (λ n. Begins self.old self.new × (n ≡ length self.new)) }
         ensures cut { IfOk result (λ n. IsCutOf self.new n area.now have.now into.new) }
         ensures room { (into.new.width ≡ into.old.width) × (into.new.height ≡ into.old.height) }
-        ensures gone { IfErr result (λ fault. (fault ≡ Gone) × (self.new ≡ self.old) × (into.new ≡ into.old)) }
+        ensures gone { IfErr result (λ fault.
+            (fault ≡ Gone) × (self.new ≡ self.old) × (into.new ≡ into.old)) }
     {
         let Some(guard) = self.reader.enter() else {
             return Err(Fault::Gone);
@@ -139,29 +120,6 @@ impl<J: Naming> Eye<J> {
         let mut both = self.front.again();
         both.learn(&front);
         copy.show(area, have, into);
-        self.number = number;
-        self.front = front;
-        Ok(number)
-    }
-
-    /// How many updates are published. From now on it knows them. It fails where the publisher has ended (`Gone`); then
-    /// it is as it was.
-    pub fn look(&mut self) -> Result<u64, Fault>
-        ensures grows { IfOk result (λ n. Begins self.old self.new × (n ≡ length self.new)) }
-        ensures gone { IfErr result (λ fault. (fault ≡ Gone) × (self.new ≡ self.old)) }
-    {
-        let Some(guard) = self.reader.enter() else {
-            return Err(Fault::Gone);
-        };
-        let copy: &Published<J> = &guard;
-        let number = copy.number();
-        if number < self.number {
-            return Err(Fault::Gone);
-        }
-        let front = copy.front();
-        // Nothing reads `both`: as in `learn_first`, its clauses say that the two are beginnings of one history.
-        let mut both = self.front.again();
-        both.learn(&front);
         self.number = number;
         self.front = front;
         Ok(number)

@@ -28,7 +28,8 @@ impl<J: Naming> Model for HistoryFront<J> {
 
     ghost view = { λ f. f.seen.log };
 
-    ghost invariant = { λ f. (f.seen.book ≡ J.book) × IsLegal f.seen.log × IsBacked J.published f.seen.log };
+    ghost invariant = { λ f.
+        (f.seen.book ≡ J.book) × IsLegal f.seen.log × IsBacked J.published f.seen.log };
 }
 
 impl<J: Naming> HistoryFront<J> {

@@ -68,7 +68,8 @@ impl<J: Naming> Glance<J> {
     pub fn learn(&mut self, news: &TallyNews<J>)
         ensures mine { Begins self.old self.new }
         ensures told { Begins news.now self.new }
-        ensures rises { (tally_of self.old ≤ tally_of self.new) × (tally_of news.now ≤ tally_of self.new) }
+        ensures rises { (tally_of self.old ≤ tally_of self.new)
+            × (tally_of news.now ≤ tally_of self.new) }
     {
         self.front.learn(&news.front);
         // This call does nothing. Its clause says that the changes are legal, so the tally hasn't fallen.

@@ -23,7 +23,8 @@ impl Model for Half {
 
 /// The rule's share and the author's, of a history without a change.
 pub(crate) fn begin<P: Publicity>() -> (Start<Change, (u64, u64), Law<P>>, Half)
-    ensures { (result.0.shown ≡ []) × (result.1.names ≡ result.0.names) × (result.1.here ≡ true) × (result.1.number ≡ 0) }
+    ensures { (result.0.shown ≡ []) × (result.1.names ≡ result.0.names) × (result.1.here ≡ true)
+        × (result.1.number ≡ 0) }
 {
     (
         Start {
@@ -42,7 +43,9 @@ impl Half {
         asked: &Offer<Change, (u64, u64), Law<P>, Nothing>,
     ) -> Offer<Change, (u64, u64), Law<P>, Turn>
         requires { self.old.here ≡ true }
-        ensures { (self.new.names ≡ self.old.names) × (self.new.here ≡ false) × (result.names ≡ self.old.names) × (result.ask ≡ asked.now.ask) × (length result.about ≡ self.old.number) × (result.state ≡ None) }
+        ensures { (self.new.names ≡ self.old.names) × (self.new.here ≡ false)
+            × (result.names ≡ self.old.names) × (result.ask ≡ asked.now.ask)
+            × (length result.about ≡ self.old.number) × (result.state ≡ None) }
     {
         Offer {
             marker: PhantomData,
@@ -52,7 +55,8 @@ impl Half {
     /// The share comes back from an offer. There were as many changes as the share said.
     pub fn back(&mut self, gained: Gained<Change, (u64, u64), Turn>)
         requires { gained.names ≡ self.old.names }
-        ensures { (self.new.names ≡ self.old.names) × (self.new.here ≡ true) × (self.new.number ≡ gained.answer.1) × (gained.answer.0 ≡ length gained.about) }
+        ensures { (self.new.names ≡ self.old.names) × (self.new.here ≡ true)
+            × (self.new.number ≡ gained.answer.1) × (gained.answer.0 ≡ length gained.about) }
     {
         let Gained { marker: _ } = gained;
     }

@@ -29,7 +29,7 @@ impl<P: Publicity> Rule<Change, (u64, u64)> for Law<P> {
     ghost moves = { λ ask before after answer. IsMove before after answer };
 }
 
-/// What a look gains: nothing, since it trades nothing.
+/// What a look gains: nothing.
 pub(crate) struct Nothing;
 
 impl Gain<Change, (u64, u64)> for Nothing {
@@ -69,7 +69,7 @@ impl<P: Publicity> Play<Change, (u64, u64)> for Add<P> {
     ghost then = { Adds P.published };
 }
 
-/// A put adds the patch's update. The patch itself trades nothing, so it counts as having run.
+/// A put adds the patch's update. Its offer trades nothing, and so counts as having run.
 impl<P: Publicity> Plain<Patch, Change, (u64, u64)> for Add<P> {
     ghost use Rattle.std.specs.Prelude.{Some};
     ghost use Rattle.shared_screen.specs.History.{Put};

@@ -4,10 +4,10 @@
 //! number of these changes, which is one word that threads share: a look is one load, and a put or a raise is one
 //! exchange. A pair is two copies that show boards: readers see one of them while the publisher changes the other.
 //!
-//! `shared` and `pair` take memory, and fail where it is refused (`Memory`) or no place is left (`NoPlace`).
-//! `Publisher::put` and `PairWriter::put`, and the end and the drop of either, may wait for a watcher or an eye that is
-//! inside a copy; so both keep a handle that may wait. A watcher, an eye and a glance never wait and take no memory,
-//! and the look of a watcher enters no copy.
+//! `shared` takes memory, and fails where it is refused (`Memory`) or no place is left (`NoPlace`). `Publisher::put`,
+//! and the end and the drop of a publisher, may wait for a watcher that is inside a copy; so a publisher keeps a handle
+//! that may wait. A watcher, its eye and its glance never wait and take no memory, and the look of a watcher enters no
+//! copy.
 #![tactic(auto)]
 
 mod author;
@@ -34,12 +34,11 @@ mod spares;
 mod stamped;
 mod tally_news;
 mod watcher;
-mod writer;
 
 pub use author::Author;
 pub use change::Change;
 pub use change_count::ChangeCount;
-pub use ends::{BESIDE_PLACES, eyes, pair};
+pub use ends::{BESIDE_PLACES, eyes};
 pub use eye::Eye;
 pub use front::HistoryFront;
 pub use glance::Glance;
@@ -58,4 +57,3 @@ pub use spares::Spares;
 pub use stamped::Stamped;
 pub use tally_news::TallyNews;
 pub use watcher::Watcher;
-pub use writer::PairWriter;

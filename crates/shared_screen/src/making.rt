@@ -33,7 +33,8 @@ fn watchers<J: Naming>(
     requires size { (width ≡ J.width) × (height ≡ J.height) }
     requires empty { All (λ eye. eye ≡ []) eyes.items × (glance.now ≡ []) }
     ensures count { IfOk result (λ made. vec_len made ≡ vec_len eyes) }
-    ensures made { IfOk result (λ made. All (λ w. w ≡ record { updates = []; tally = 0 }) made.items) }
+    ensures made { IfOk result (λ made.
+        All (λ w. w ≡ record { updates = []; tally = 0 }) made.items) }
     ensures err { IfErr result (λ fault. fault ≡ Memory) }
 {
     let mut made = Vec::new(alloc);
@@ -59,7 +60,8 @@ pub fn shared<J: Naming, R: Wait + Drop + Copy>(
     requires places { (1 ≤ places) × (places ≤ 66) }
     ensures publisher { IfOk result (λ ends. ends.0 ≡ opening) }
     ensures count { IfOk result (λ ends. vec_len ends.1 ≡ places) }
-    ensures watchers { IfOk result (λ ends. All (λ w. w ≡ record { updates = []; tally = 0 }) ends.1.items) }
+    ensures watchers { IfOk result (λ ends.
+        All (λ w. w ≡ record { updates = []; tally = 0 }) ends.1.items) }
     ensures err { IfErr result (λ fault. (fault ≡ Memory) ⊎ (fault ≡ NoPlace)) }
 {
     let (change_count, author) = history.named();

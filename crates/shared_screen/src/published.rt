@@ -109,7 +109,8 @@ impl<J: Naming> Published<J> {
         requires size { (have.now.width ≡ J.width) × (have.now.height ≡ J.height) }
         requires room { (into.old.width ≡ J.width) × (into.old.height ≡ J.height) }
         ensures size { (into.new.width ≡ into.old.width) × (into.new.height ≡ into.old.height) }
-        ensures cut { IsCutOf (puts_of self.now) (length (puts_of self.now)) area.now have.now into.new }
+        ensures cut { IsCutOf (puts_of self.now) (length (puts_of self.now)) area.now have.now
+            into.new }
     {
         into.fill(&self.board, area, have);
     }

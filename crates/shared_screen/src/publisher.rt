@@ -53,7 +53,9 @@ where
 
     ghost view = { λ p. publishing p.front p.raiser };
 
-    ghost invariant = { λ p. (pending p.handle ≡ []) × (puts_of (published p.handle) ≡ puts_of p.front) × (tally_of p.front ≡ length (puts_of p.front)) × Begins p.front p.raiser };
+    ghost invariant = { λ p. (pending p.handle ≡ [])
+        × (puts_of (published p.handle) ≡ puts_of p.front)
+        × (tally_of p.front ≡ length (puts_of p.front)) × Begins p.front p.raiser };
 }
 
 impl<J: Naming, R: Wait + Drop> Publisher<J, R> {
@@ -81,7 +83,11 @@ impl<J: Naming, R: Wait + Drop> Publisher<J, R> {
     pub fn news(&self) -> News<J>
     where
         J: Publishes,
-        ensures { result ≡ record { updates = puts_of self.now.changes; tally = length (puts_of self.now.changes) } }
+        ensures { result
+            ≡ record {
+              updates = puts_of self.now.changes;
+              tally = length (puts_of self.now.changes);
+            } }
     {
         News {
             pair: news_of(&self.handle),
@@ -117,11 +123,17 @@ impl<J: Naming + Publishes, R: Wait + Drop> Puts for Publisher<J, R> {
     /// this isn't seen to happen; but no clause of the pair says that it is enough.
     fn put(&mut self, patch: Patch) -> Result<u64, (Fault, Patch)>
         requires { (patch.width ≡ J.width) × (patch.height ≡ J.height) }
-        ensures history { IfOk result (λ n. self.new.changes ≡ (self.old.changes ++ Put patch.update ∷ []) ++ Raise n ∷ []) }
-        ensures ok { IfOk result (λ n. (length (puts_of self.old.changes) < 2 ^ 62) × (puts_of self.new.changes ≡ puts_of self.old.changes ++ patch.update ∷ []) × (n ≡ length (puts_of self.new.changes))) }
+        ensures history { IfOk result (λ n.
+            self.new.changes ≡ (self.old.changes ++ Put patch.update ∷ []) ++ Raise n ∷ []) }
+        ensures ok { IfOk result (λ n. (length (puts_of self.old.changes) < 2 ^ 62)
+            × (puts_of self.new.changes ≡ puts_of self.old.changes ++ patch.update ∷ [])
+            × (n ≡ length (puts_of self.new.changes))) }
         ensures first { IfOk result (λ n. (self.old.refused ≡ []) × (self.new.refused ≡ [])) }
-        ensures err { IfErr result (λ refused. IsPutRefusal (length (puts_of self.old.changes)) refused.0 × (refused.1 ≡ patch) × (self.new.changes ≡ self.old.changes)) }
-        ensures refused { IfErr result (λ refused. IsLeftByRefusal patch.update refused.0 self.old self.new) }
+        ensures err { IfErr result (λ refused.
+            IsPutRefusal (length (puts_of self.old.changes)) refused.0
+            × (refused.1 ≡ patch) × (self.new.changes ≡ self.old.changes)) }
+        ensures refused { IfErr result (λ refused.
+            IsLeftByRefusal patch.update refused.0 self.old self.new) }
     {
         let number = news_of(&self.handle).number();
         if number >= LIMIT {

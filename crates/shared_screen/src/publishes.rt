@@ -10,10 +10,10 @@ use left_right::WriteHandle;
 use std::marker::Brand;
 use std::sync::Wait;
 
-/// A name by which updates count as published where a pair has published them. A body that is generic over the name
-/// learns this of no other updates, since only this call says it.
+/// A name of which it is known that what a pair's handle has published counts as published. A body that is generic over
+/// the name learns this of no other updates, since only this call says it.
 pub trait Publishes: Publicity {
-    /// It does nothing. Its clause says that what this pair has published is published.
+    /// Does nothing. Its clause lets a proof count as published the updates that this handle has published.
     fn known_by<J: Naming, R: Wait + Drop>(handle: &WriteHandle<Published<J>, Stamped<J>, R>)
         ensures { Self.published (puts_of (published handle.now)) };
 }

@@ -1,5 +1,4 @@
-//! How a publisher changes the copies. These are functions of the pair's handle, since a publisher that also raises the
-//! tally keeps that handle itself.
+//! How a publisher changes the two copies of a pair, by the handle that it keeps.
 
 ghost use Rattle.std.specs.Prelude.{◌≡◌, ◌^◌, ◌<◌, ◌≤◌, [], length, suc, IfOk, IfErr, MatchResult};
 ghost use Rattle.left_right.specs.Handles.{published, pending};
@@ -54,7 +53,8 @@ pub fn publish<J: Naming, R: Wait + Drop>(
     requires idle { pending handle.old ≡ [] }
     requires next { suc (length (puts_of (published handle.old))) ≡ length (puts_of next) }
     ensures idle { pending handle.new ≡ [] }
-    ensures published { MatchResult result (λ _. published handle.new ≡ next) (λ fault. (fault ≡ Memory) × (published handle.new ≡ published handle.old)) }
+    ensures published { MatchResult result (λ _. published handle.new ≡ next)
+        (λ fault. (fault ≡ Memory) × (published handle.new ≡ published handle.old)) }
 {
     let Ok(()) = handle.append(next) else {
         return Err(Fault::Memory);

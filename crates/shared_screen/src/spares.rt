@@ -43,7 +43,8 @@ impl<J: Naming> Model for Spares<J> {
 
     ghost view = { λ s. record { kept = vec_len s.boards; most = s.most } };
 
-    ghost invariant = { λ s. (vec_len s.boards + s.left ≤ s.most) × IsScreenSize s.width s.height × (s.width ≡ J.width) × (s.height ≡ J.height) × (s.opening ≡ []) };
+    ghost invariant = { λ s. (vec_len s.boards + s.left ≤ s.most) × IsScreenSize s.width s.height
+        × (s.width ≡ J.width) × (s.height ≡ J.height) × (s.opening ≡ []) };
 }
 
 /// The index of the newest board that nobody else has: it lacks the fewest of the published updates.
@@ -107,7 +108,7 @@ impl<J: Naming> Spares<J> {
         })
     }
 
-    /// How many boards it keeps: those that others have, too, and those that are free.
+    /// How many boards it keeps, free or not.
     pub fn len(&self) -> usize
         ensures kept { result ≡ self.now.kept }
         ensures few { result ≤ self.now.most }
@@ -127,9 +128,9 @@ impl<J: Naming> Spares<J> {
         }
     }
 
-    /// Keeps a board that may become free later. Room for it was taken when the spares were made. Where one more owner
-    /// of it is refused it isn't kept, which does no harm. Before that it lets go of a board that nobody else has, where
-    /// there are more such boards than are kept.
+    /// Keeps a board that may become free later, in room that was taken when the spares were made. Where one more owner
+    /// of the board is refused, it isn't kept, which does no harm. First it lets go of a free board, where there are
+    /// more of these than are kept.
     pub fn keep(&mut self, board: &Stamped<J>)
         ensures most { self.new.most ≡ self.old.most }
         ensures kept { (self.new.kept ≤ suc self.old.kept) × (self.old.kept ≤ suc self.new.kept) }
@@ -174,7 +175,8 @@ impl<J: Naming> Spares<J> {
         requires number { length (puts_of newest.now) < 2 ^ 62 }
         ensures most { self.new.most ≡ self.old.most }
         ensures kept { (self.new.kept ≤ self.old.kept) × (self.old.kept ≤ suc self.new.kept) }
-        ensures ok { IfOk result (λ board. IsNext J.width J.height (arc_value board) newest.now patch.now.update) }
+        ensures ok { IfOk result (λ board.
+            IsNext J.width J.height (arc_value board) newest.now patch.now.update) }
         ensures err { IfErr result (λ fault. fault ≡ Memory) }
     {
         let spare = self.taken()?;

@@ -38,7 +38,8 @@ impl<J: Naming> Model for Stamped<J> {
 
     ghost view = { λ s. s.front };
 
-    ghost invariant = { λ s. IsPublished J.width J.height (arc_value s.board) s.front × (s.number ≡ length (puts_of s.front)) };
+    ghost invariant = { λ s. IsPublished J.width J.height (arc_value s.board) s.front
+        × (s.number ≡ length (puts_of s.front)) };
 }
 
 /// Where nobody else has the board, makes it show what a newer one shows and one update more, and answers true. If a
@@ -50,10 +51,14 @@ fn go_on(
     wanted: Option<Format>,
 ) -> bool
     requires same { IsSameScreen (arc_value board.old) newer.now }
-    requires size { (patch.now.width ≡ (arc_value board.old).width) × (patch.now.height ≡ (arc_value board.old).height) }
+    requires size { (patch.now.width ≡ (arc_value board.old).width)
+        × (patch.now.height ≡ (arc_value board.old).height) }
     requires number { newer.now.number < 2 ^ 62 }
     ensures size { IsTrue result → IsSameScreen (arc_value board.old) (arc_value board.new) }
-    ensures stands { (us : List Update) → IsTrue result → BoardStands (arc_value board.old) (take (arc_value board.old).number us) → BoardStands newer.now us → BoardStands (arc_value board.new) (us ++ patch.now.update ∷ []) }
+    ensures stands { (us : List Update) → IsTrue result
+        → BoardStands (arc_value board.old) (take (arc_value board.old).number us)
+        → BoardStands newer.now us
+        → BoardStands (arc_value board.new) (us ++ patch.now.update ∷ []) }
 {
     match Arc::get_mut(board) {
         Some(own) => {
@@ -124,7 +129,8 @@ impl<J: Naming> Stamped<J> {
     ) -> Option<Arc<Board, Global>>
         requires size { (patch.now.width ≡ J.width) × (patch.now.height ≡ J.height) }
         requires number { length (puts_of newest.now) < 2 ^ 62 }
-        ensures { IfSome result (λ board. IsNext J.width J.height (arc_value board) newest.now patch.now.update) }
+        ensures { IfSome result (λ board.
+            IsNext J.width J.height (arc_value board) newest.now patch.now.update) }
     {
         let Stamped {
             mut board,

@@ -48,7 +48,8 @@ impl<J: Naming> Model for Watcher<J> {
 
     ghost view = { λ w. record { updates = w.eye; tally = max w.told (w.last - 1) } };
 
-    ghost invariant = { λ w. (w.width ≡ J.width) × (w.height ≡ J.height) × (w.told ≤ tally_of w.glance) × (length w.eye ≡ max w.told w.last) };
+    ghost invariant = { λ w. (w.width ≡ J.width) × (w.height ≡ J.height)
+        × (w.told ≤ tally_of w.glance) × (length w.eye ≡ max w.told w.last) };
 }
 
 impl<J: Naming> Watcher<J> {
@@ -77,7 +78,8 @@ impl<J: Naming> Watcher<J> {
     /// From now on it knows the longer of two lists: its own, and the one that the news tells. Each of the two begins
     /// that. Each later look answers at least the tally that the news tells.
     pub fn learn(&mut self, news: &News<J>)
-        ensures one { (self.new.updates ≡ self.old.updates) ⊎ (self.new.updates ≡ news.now.updates) }
+        ensures one { (self.new.updates ≡ self.old.updates)
+            ⊎ (self.new.updates ≡ news.now.updates) }
         ensures mine { Begins self.old.updates self.new.updates }
         ensures told { Begins news.now.updates self.new.updates }
         ensures rises { (self.old.tally ≤ self.new.tally) × (news.now.tally ≤ self.new.tally) }
@@ -92,10 +94,12 @@ impl<J: Naming> Watcher<J> {
     pub fn meet<R: Wait + Drop>(&mut self, publisher: &Publisher<J, R>)
     where
         J: Publishes,
-        ensures one { (self.new.updates ≡ self.old.updates) ⊎ (self.new.updates ≡ puts_of publisher.now.changes) }
+        ensures one { (self.new.updates ≡ self.old.updates)
+            ⊎ (self.new.updates ≡ puts_of publisher.now.changes) }
         ensures mine { Begins self.old.updates self.new.updates }
         ensures told { Begins (puts_of publisher.now.changes) self.new.updates }
-        ensures rises { (self.old.tally ≤ self.new.tally) × (length (puts_of publisher.now.changes) ≤ self.new.tally) }
+        ensures rises { (self.old.tally ≤ self.new.tally)
+            × (length (puts_of publisher.now.changes) ≤ self.new.tally) }
         ensures history { Reaches self.old [] self.new }
     {
         self.learn(&publisher.news());
@@ -104,7 +108,8 @@ impl<J: Naming> Watcher<J> {
     /// It changes nothing and learns nothing. Its clause says that watcher and publisher are of one list of updates:
     /// one of the two that they know begins the other.
     pub fn is_of<R: Wait + Drop>(&self, publisher: &Publisher<J, R>)
-        ensures { Begins self.now.updates (puts_of publisher.now.changes) ⊎ Begins (puts_of publisher.now.changes) self.now.updates }
+        ensures { Begins self.now.updates (puts_of publisher.now.changes)
+            ⊎ Begins (puts_of publisher.now.changes) self.now.updates }
     {
         // Nothing reads `both`. Its clauses say that the two are beginnings of one history, which the proof needs.
         let mut both = self.eye.front();
@@ -114,7 +119,8 @@ impl<J: Naming> Watcher<J> {
     /// It changes nothing and learns nothing. Its clause says that both watchers are of one list of updates: one of the
     /// two that they know begins the other.
     pub fn is_beside(&self, other: &Watcher<J>)
-        ensures { Begins self.now.updates other.now.updates ⊎ Begins other.now.updates self.now.updates }
+        ensures { Begins self.now.updates other.now.updates
+            ⊎ Begins other.now.updates self.now.updates }
     {
         // As in `is_of`.
         let mut both = self.eye.front();
@@ -135,7 +141,8 @@ impl<J: Naming> ScreenSource for Watcher<J> {
 
     ghost looks = { λ old reply new. Reaches old (step.Look reply ∷ []) new };
 
-    ghost cuts = { λ old number new. (number ≡ length new.updates) × Reaches old (step.Cut (view new.updates) ∷ []) new };
+    ghost cuts = { λ old number new.
+        (number ≡ length new.updates) × Reaches old (step.Cut (view new.updates) ∷ []) new };
 
     fn size(&self) -> (u64, u64) {
         (self.width, self.height)
@@ -165,12 +172,16 @@ impl<J: Naming> ScreenSource for Watcher<J> {
         requires within { IsWithin area.now J.width J.height }
         requires screen { (have.now.width ≡ J.width) × (have.now.height ≡ J.height) }
         requires room { (into.old.width ≡ J.width) × (into.old.height ≡ J.height) }
-        ensures reply { IfOk result (λ n. IsCutOf self.new.updates n area.now have.now into.new × (n ≡ length self.new.updates)) }
-        ensures rises { IfOk result (λ n. (self.old.tally ≤ n) × (self.old.tally ≤ self.new.tally) × (n ≤ self.new.tally + 1)) }
+        ensures reply { IfOk result (λ n.
+            IsCutOf self.new.updates n area.now have.now into.new × (n ≡ length self.new.updates)) }
+        ensures rises { IfOk result (λ n.
+            (self.old.tally ≤ n) × (self.old.tally ≤ self.new.tally) × (n ≤ self.new.tally + 1)) }
         ensures grows { Begins self.old.updates self.new.updates }
-        ensures history { IfOk result (λ _. Reaches self.old (step.Cut (view self.new.updates) ∷ []) self.new) }
+        ensures history { IfOk result (λ _.
+            Reaches self.old (step.Cut (view self.new.updates) ∷ []) self.new) }
         ensures room { (into.new.width ≡ into.old.width) × (into.new.height ≡ into.old.height) }
-        ensures gone { IfErr result (λ fault. (fault ≡ Gone) × (self.new ≡ self.old) × (into.new ≡ into.old)) }
+        ensures gone { IfErr result (λ fault.
+            (fault ≡ Gone) × (self.new ≡ self.old) × (into.new ≡ into.old)) }
     {
         let number = self.eye.cut(area, have, into)?;
         self.last = number;
