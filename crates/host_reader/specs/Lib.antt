@@ -1,2 +1,3 @@
 pub mod Moment
 pub mod Running
+pub mod Sizes

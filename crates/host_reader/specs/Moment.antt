@@ -20,7 +20,8 @@ pub record ReadsSoFar (w h : ℕ) (screen : Canvas) (link_old link_new : LinkSta
 -- ---- what a reading keeps
 
 -- The bytes that were taken so far are read, and their updates were put.
-pub record HasReadSoFar (w h : ℕ) (screen : Canvas) (decoder : Decoding) (painter : Painting) (is_between : Bool) (link_old link_new : LinkState) (old new : List Update) : Type 0 where
+pub record HasReadSoFar (w h : ℕ) (screen : Canvas) (decoder : Decoding) (painter : Painting)
+    (is_between : Bool) (link_old link_new : LinkState) (old new : List Update) : Type 0 where
   pub stream : List ℕ
   pub taken : link_new.taken ≡ link_old.taken ++ stream
   pub read : HasRead w h screen decoder painter is_between stream old new
@@ -33,25 +34,33 @@ pub record HasStopped (w h : ℕ) (screen : Canvas) (link_old link_new : LinkSta
   pub stops : Stops w h screen fault stream old new
 
 -- It goes on (false), or it is over.
-abbrev pub IsReadSoFar : Bool → ℕ → ℕ → Canvas → Decoding → Painting → Bool → (link_old link_new : LinkState) → (old new : List Update) → Type 0
-IsReadSoFar true w h screen decoder painter is_between link_old link_new old new = HasStopped w h screen link_old link_new old new
-IsReadSoFar false w h screen decoder painter is_between link_old link_new old new = HasReadSoFar w h screen decoder painter is_between link_old link_new old new
+abbrev pub IsReadSoFar : Bool → ℕ → ℕ → Canvas → Decoding → Painting → Bool → (link_old link_new : LinkState)
+    → (old new : List Update) → Type 0
+IsReadSoFar true w h screen decoder painter is_between link_old link_new old new =
+    HasStopped w h screen link_old link_new old new
+IsReadSoFar false w h screen decoder painter is_between link_old link_new old new =
+    HasReadSoFar w h screen decoder painter is_between link_old link_new old new
 
 -- ---- what a loop over its steps keeps
 
 -- Since the link stood as old and the publisher had the updates old, these bytes more were taken, and all was read and
 -- put. The link was given nothing, and neither failed nor ended.
-pub record IsRunning (w h : ℕ) (screen : Canvas) (decoder : Decoding) (painter : Painting) (is_between : Bool) (link_old link_now : LinkState) (old now : List Update) : Type 0 where
+pub record IsRunning (w h : ℕ) (screen : Canvas) (decoder : Decoding) (painter : Painting) (is_between : Bool)
+    (link_old link_now : LinkState) (old now : List Update) : Type 0 where
   pub stream : List ℕ
   pub took : link_now ≡ record link_old { taken = link_old.taken ++ stream }
   pub read : HasRead w h screen decoder painter is_between stream old now
 
 -- What such a loop answers, and what was put.
-abbrev pub EndsSo : ℕ → ℕ → Canvas → Result (Unit {0}) Fault → (link_old link_new : LinkState) → (old new : List Update) → Type 0
+abbrev pub EndsSo : ℕ → ℕ → Canvas → Result (Unit {0}) Fault → (link_old link_new : LinkState)
+    → (old new : List Update) → Type 0
 EndsSo w h screen (Ok done) link_old link_new old new = EndsBetween w h screen link_old link_new old new
 EndsSo w h screen (Err fault) link_old link_new old new = EndsWith w h screen fault link_old link_new old new
 
 -- A step was done: it answers that the loop goes on, or that it ends, and how.
-abbrev pub RunsOrEnds : Option (Result (Unit {0}) Fault) → ℕ → ℕ → Canvas → Decoding → Painting → Bool → (link_old link_new : LinkState) → (old new : List Update) → Type 0
-RunsOrEnds None w h screen decoder painter is_between link_old link_new old new = IsRunning w h screen decoder painter is_between link_old link_new old new
-RunsOrEnds (Some answer) w h screen decoder painter is_between link_old link_new old new = EndsSo w h screen answer link_old link_new old new
+abbrev pub RunsOrEnds : Option (Result (Unit {0}) Fault) → ℕ → ℕ → Canvas → Decoding → Painting → Bool
+    → (link_old link_new : LinkState) → (old new : List Update) → Type 0
+RunsOrEnds None w h screen decoder painter is_between link_old link_new old new =
+    IsRunning w h screen decoder painter is_between link_old link_new old new
+RunsOrEnds (Some answer) w h screen decoder painter is_between link_old link_new old new =
+    EndsSo w h screen answer link_old link_new old new

@@ -15,6 +15,10 @@ use Rattle.host_decoder.specs.Decoder.{Decodes, Decoding, host_message}
 use Rattle.host_decoder.specs.Updates.{updates}
 use Rattle.reflect_core.specs.Sequential.{Begins}
 
+-- Decoder and painter stand for the beginning of a message, sent over this screen.
+abbrev pub AwaitsMessage : Decoding → Painting → Canvas → Type 0
+AwaitsMessage decoder painter screen = Decodes decoder painter screen (host_message decoder.width decoder.height)
+
 -- The host's bytes are in the middle of a message: after some whole messages there are bytes that begin one, and it
 -- wants more.
 pub record IsInside (w h : ℕ) (stream : List ℕ) : Type 0 where
@@ -58,7 +62,8 @@ abbrev pub Stops : ℕ → ℕ → Canvas → Fault → (stream : List ℕ) → 
 Stops w h screen fault stream old new = AreCut w h screen fault stream old new ⊎ AtFault w h screen fault stream old new
 
 -- The link said in the meantime that it ended, between two messages, and it didn't fail.
-pub record EndsBetween (w h : ℕ) (screen : Canvas) (link_old link_new : LinkState) (old new : List Update) : Type 0 where
+pub record EndsBetween (w h : ℕ) (screen : Canvas) (link_old link_new : LinkState) (old new : List Update)
+    : Type 0 where
   pub stream : List ℕ
   pub taken : link_new.taken ≡ link_old.taken ++ stream
   pub put : ArePut w h screen stream old new
@@ -73,10 +78,12 @@ LinkStops w h LinkEnded stream link_old link_new = HasRisen link_old.ended link_
 LinkStops w h _ stream link_old link_new = ⊥
 
 -- Why it ends otherwise. What was put stays.
-pub record EndsWith (w h : ℕ) (screen : Canvas) (fault : Fault) (link_old link_new : LinkState) (old new : List Update) : Type 0 where
+pub record EndsWith (w h : ℕ) (screen : Canvas) (fault : Fault) (link_old link_new : LinkState)
+    (old new : List Update) : Type 0 where
   pub stream : List ℕ
   pub taken : link_new.taken ≡ link_old.taken ++ stream
-  pub stops : (ArePut w h screen stream old new × LinkStops w h fault stream link_old link_new) ⊎ Stops w h screen fault stream old new
+  pub stops : (ArePut w h screen stream old new × LinkStops w h fault stream link_old link_new)
+      ⊎ Stops w h screen fault stream old new
 
 -- What is answered where an answer of the link ends the run: the host's bytes so far end between two messages, or
 -- inside one.
@@ -97,7 +104,8 @@ pub record CanRead (decoder : Decoding) (painter : Painting) : Type 0 where
   pub wants : wants_more reading ≡ true
 
 -- Decoder and painter stand after the host's bytes so far, sent over this screen, all of whose updates were put.
-pub record HasRead (w h : ℕ) (screen : Canvas) (decoder : Decoding) (painter : Painting) (is_between : Bool) (stream : List ℕ) (old new : List Update) : Type 0 where
+pub record HasRead (w h : ℕ) (screen : Canvas) (decoder : Decoding) (painter : Painting) (is_between : Bool)
+    (stream : List ℕ) (old new : List Update) : Type 0 where
   pub reads : Decodes decoder painter (after_updates screen (updates w h stream)) (rest (host_message w h) stream)
   pub wants : wants_more (rest (host_message w h) stream) ≡ true
   pub ends : EndsAt is_between w h stream

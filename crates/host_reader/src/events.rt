@@ -7,6 +7,7 @@ ghost use Rattle.host_decoder.specs.Decoder.{IsFor};
 ghost use Rattle.host_decoder.specs.Events.{IsSized, brought_by};
 ghost use Rattle.reflect_core.specs.Plain.{IsPutRefusal};
 ghost use Rattle.host_reader.specs.Running.{CanRead, HasRead, Stops};
+ghost use Rattle.host_reader.specs.Sizes.{HasSize, KeepsSize, SameScreenSize};
 
 use fault::Fault;
 use host_decoder::{HostDecoder, HostEvent};
@@ -16,9 +17,11 @@ use reflect_core::Puts;
 /// Puts a patch into the list of updates.
 fn put_patch<P: Puts>(publisher: &mut P, patch: Patch) -> Result<(), Fault>
     requires { (patch.width ≡ P.width publisher.old) × (patch.height ≡ P.height publisher.old) }
-    ensures size { (P.width publisher.new ≡ P.width publisher.old) × (P.height publisher.new ≡ P.height publisher.old) }
-    ensures ok { OnOk result (P.updates publisher.new ≡ P.updates publisher.old ++ patch.update ∷ []) }
-    ensures err { IfErr result (λ fault. IsPutRefusal (length (P.updates publisher.old)) fault × (P.updates publisher.new ≡ P.updates publisher.old)) }
+    ensures size { KeepsSize P.width P.height publisher.old publisher.new }
+    ensures ok { OnOk result (P.updates publisher.new
+        ≡ P.updates publisher.old ++ patch.update ∷ []) }
+    ensures err { IfErr result (λ fault. IsPutRefusal (length (P.updates publisher.old)) fault
+        × (P.updates publisher.new ≡ P.updates publisher.old)) }
 {
     match publisher.put(patch) {
         Ok(_) => Ok(()),
@@ -29,9 +32,11 @@ fn put_patch<P: Puts>(publisher: &mut P, patch: Patch) -> Result<(), Fault>
 /// Puts the update that a message brings. A colour map brings none, nor does a text that isn't kept.
 fn put_event<P: Puts>(publisher: &mut P, event: HostEvent) -> Result<(), Fault>
     requires { IsSized (P.width publisher.old) (P.height publisher.old) event }
-    ensures size { (P.width publisher.new ≡ P.width publisher.old) × (P.height publisher.new ≡ P.height publisher.old) }
-    ensures ok { OnOk result (P.updates publisher.new ≡ P.updates publisher.old ++ brought_by event) }
-    ensures err { IfErr result (λ fault. IsPutRefusal (length (P.updates publisher.old)) fault × (P.updates publisher.new ≡ P.updates publisher.old)) }
+    ensures size { KeepsSize P.width P.height publisher.old publisher.new }
+    ensures ok { OnOk result (P.updates publisher.new
+        ≡ P.updates publisher.old ++ brought_by event) }
+    ensures err { IfErr result (λ fault. IsPutRefusal (length (P.updates publisher.old)) fault
+        × (P.updates publisher.new ≡ P.updates publisher.old)) }
 {
     match event {
         HostEvent::Paint(patch) => put_patch(publisher, patch),
@@ -55,14 +60,21 @@ pub(crate) fn put_piece<P: Puts>(
 ) -> Result<bool, Fault>
     requires reads { CanRead decoder.old painter.old }
     requires painter { IsFor decoder.old painter.old }
-    requires publisher { (P.width publisher.old ≡ decoder.old.width) × (P.height publisher.old ≡ decoder.old.height) }
-    ensures decoder { (decoder.new.width ≡ decoder.old.width) × (decoder.new.height ≡ decoder.old.height) }
+    requires publisher { HasSize P.width P.height publisher.old decoder.old.width
+        decoder.old.height }
+    ensures decoder { SameScreenSize decoder.old decoder.new }
     ensures painter { IsFor decoder.new painter.new }
-    ensures publisher { (P.width publisher.new ≡ P.width publisher.old) × (P.height publisher.new ≡ P.height publisher.old) }
-    ensures puts { (screen : Canvas) (stream : List ℕ) (old : List Update) → HasRead decoder.old.width decoder.old.height screen decoder.old painter.old is_between stream old (P.updates publisher.old)
+    ensures publisher { KeepsSize P.width P.height publisher.old publisher.new }
+    ensures puts { (screen : Canvas) (stream : List ℕ) (old : List Update)
+        → HasRead decoder.old.width decoder.old.height screen decoder.old painter.old is_between
+        stream old (P.updates publisher.old)
         → MatchResult result
-        (λ between. HasRead decoder.old.width decoder.old.height screen decoder.new painter.new between (stream ++ piece.now) old (P.updates publisher.new))
-        (λ fault. Stops decoder.old.width decoder.old.height screen fault (stream ++ piece.now) old (P.updates publisher.new)) }
+        (λ between.
+        HasRead decoder.old.width decoder.old.height screen decoder.new painter.new between
+        (stream ++ piece.now) old (P.updates publisher.new))
+        (λ fault.
+        Stops decoder.old.width decoder.old.height screen fault (stream ++ piece.now) old
+        (P.updates publisher.new)) }
 {
     let mut used = 0;
     let mut between = is_between;

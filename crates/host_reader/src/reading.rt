@@ -3,10 +3,11 @@
 ghost use Rattle.std.specs.Prelude.{◌≡◌, ℕ, ◌<◌, Bool, true, false, None, List, length};
 ghost use Rattle.raster.specs.Screen.{Canvas};
 ghost use Rattle.raster.specs.Update.{Update};
-ghost use Rattle.host_decoder.specs.Decoder.{Decodes, IsFor, host_message};
+ghost use Rattle.host_decoder.specs.Decoder.{IsFor};
 ghost use Rattle.link.specs.Links.{LinkState};
 ghost use Rattle.host_reader.specs.Moment.{IsReadSoFar, IsRunning, ReadsSoFar, RunsOrEnds};
-ghost use Rattle.host_reader.specs.Running.{CanRead};
+ghost use Rattle.host_reader.specs.Running.{AwaitsMessage, CanRead};
+ghost use Rattle.host_reader.specs.Sizes.{HasSize, KeepsSize, SameScreenSize};
 
 use crate::hear::hear;
 use fault::Fault;
@@ -71,11 +72,18 @@ pub struct Reading<'a, L: Link, P: Puts> {
     // How it all began. It is lent, so no step can put another beginning in its place.
     first: &'a HostBeginning<L, P>,
     ghost room: { 0 < length buffer.now },
-    ghost size: { (decoder.now.width ≡ first.now.decoder.value.width) × (decoder.now.height ≡ first.now.decoder.value.height) },
-    ghost painter_size: { (painter.now.width ≡ decoder.now.width) × (painter.now.height ≡ decoder.now.height) },
-    ghost publisher_size: { (P.width publisher.now ≡ decoder.now.width) × (P.height publisher.now ≡ decoder.now.height) },
+    ghost size: { (decoder.now.width ≡ first.now.decoder.value.width)
+        × (decoder.now.height ≡ first.now.decoder.value.height) },
+    ghost painter_size: { (painter.now.width ≡ decoder.now.width)
+        × (painter.now.height ≡ decoder.now.height) },
+    ghost publisher_size: { HasSize P.width P.height publisher.now decoder.now.width
+        decoder.now.height },
     ghost given: { (L.state link.now).given ≡ (L.state first.now.link.value).given },
-    ghost lawful: { ∥ ((screen : Canvas) → Decodes first.now.decoder.value first.now.painter.value screen (host_message first.now.decoder.value.width first.now.decoder.value.height) → IsReadSoFar is_over first.now.decoder.value.width first.now.decoder.value.height screen decoder.now painter.now is_between (L.state first.now.link.value) (L.state link.now) (P.updates first.now.publisher.value) (P.updates publisher.now)) ∥₁ },
+    ghost lawful: { ∥ ((screen : Canvas)
+        → AwaitsMessage first.now.decoder.value first.now.painter.value screen
+        → IsReadSoFar is_over first.now.decoder.value.width first.now.decoder.value.height screen
+        decoder.now painter.now is_between (L.state first.now.link.value) (L.state link.now)
+        (P.updates first.now.publisher.value) (P.updates publisher.now)) ∥₁ },
 }
 
 impl<'a, L: Link, P: Puts> Reading<'a, L, P> {
@@ -88,14 +96,21 @@ impl<'a, L: Link, P: Puts> Reading<'a, L, P> {
         publisher: &'a mut P,
         buffer: &'a mut [u8],
     ) -> Self
-        requires first { (first.now.link.value ≡ link.old) × (first.now.decoder.value ≡ decoder.old) × (first.now.painter.value ≡ painter.old) × (first.now.publisher.value ≡ publisher.old) }
+        requires first { (first.now.link.value ≡ link.old) × (first.now.decoder.value ≡ decoder.old)
+            × (first.now.painter.value ≡ painter.old)
+            × (first.now.publisher.value ≡ publisher.old) }
         requires room { 0 < length buffer.old }
         requires painter { IsFor decoder.old painter.old }
-        requires publisher { (P.width publisher.old ≡ decoder.old.width) × (P.height publisher.old ≡ decoder.old.height) }
-        ensures link { (result.link.now ≡ link.old) × (result.link.ghost_name ≡ link.entry.ghost_name) }
-        ensures decoder { (result.decoder.now ≡ decoder.old) × (result.decoder.ghost_name ≡ decoder.entry.ghost_name) }
-        ensures painter { (result.painter.now ≡ painter.old) × (result.painter.ghost_name ≡ painter.entry.ghost_name) }
-        ensures publisher { (result.publisher.now ≡ publisher.old) × (result.publisher.ghost_name ≡ publisher.entry.ghost_name) }
+        requires publisher { HasSize P.width P.height publisher.old decoder.old.width
+            decoder.old.height }
+        ensures link { (result.link.now ≡ link.old)
+            × (result.link.ghost_name ≡ link.entry.ghost_name) }
+        ensures decoder { (result.decoder.now ≡ decoder.old)
+            × (result.decoder.ghost_name ≡ decoder.entry.ghost_name) }
+        ensures painter { (result.painter.now ≡ painter.old)
+            × (result.painter.ghost_name ≡ painter.entry.ghost_name) }
+        ensures publisher { (result.publisher.now ≡ publisher.old)
+            × (result.publisher.ghost_name ≡ publisher.entry.ghost_name) }
         ensures begins { (result.is_between ≡ true) × (result.is_over ≡ false) }
         ensures first { result.first ≡ first.entry }
     {
@@ -113,22 +128,37 @@ impl<'a, L: Link, P: Puts> Reading<'a, L, P> {
 
     /// It does nothing. Its clauses say what is true of the reading at every moment.
     pub fn so_far(&self)
-        ensures given { (L.state self.now.link.now).given ≡ (L.state self.now.first.now.link.value).given }
-        ensures reads { ∥ ((screen : Canvas) → Decodes self.now.first.now.decoder.value self.now.first.now.painter.value screen (host_message self.now.first.now.decoder.value.width self.now.first.now.decoder.value.height) → ReadsSoFar self.now.first.now.decoder.value.width self.now.first.now.decoder.value.height screen (L.state self.now.first.now.link.value) (L.state self.now.link.now) (P.updates self.now.first.now.publisher.value) (P.updates self.now.publisher.now)) ∥₁ }
+        ensures given { (L.state self.now.link.now).given
+            ≡ (L.state self.now.first.now.link.value).given }
+        ensures reads { ∥ ((screen : Canvas)
+            → AwaitsMessage self.now.first.now.decoder.value self.now.first.now.painter.value screen
+            → ReadsSoFar self.now.first.now.decoder.value.width
+            self.now.first.now.decoder.value.height screen (L.state self.now.first.now.link.value)
+            (L.state self.now.link.now) (P.updates self.now.first.now.publisher.value)
+            (P.updates self.now.publisher.now)) ∥₁ }
     {}
 
-    /// Takes the bytes that have come, and puts the update of each message that ends in them. It answers what the run
-    /// answers where it ends.
+    /// Takes the bytes that have come, and puts the update of each message that ends in them. It answers what reading
+    /// answers if it ends here, or `None`.
     pub(crate) fn hear(&mut self) -> Option<Result<(), Fault>>
         requires on { self.old.is_over ≡ false }
         requires reads { CanRead self.old.decoder.now self.old.painter.now }
-        ensures keeps { (w h : ℕ) (screen : Canvas) (start : LinkState) (old : List Update) → self.old.decoder.now.width ≡ w → self.old.decoder.now.height ≡ h → IsRunning w h screen self.old.decoder.now self.old.painter.now self.old.is_between start (L.state self.old.link.now) old (P.updates self.old.publisher.now)
-            → RunsOrEnds result w h screen self.new.decoder.now self.new.painter.now self.new.is_between start (L.state self.new.link.now) old (P.updates self.new.publisher.now) }
+        ensures keeps { (w h : ℕ) (screen : Canvas) (start : LinkState) (old : List Update)
+            → self.old.decoder.now.width ≡ w → self.old.decoder.now.height ≡ h
+            → IsRunning w h screen self.old.decoder.now self.old.painter.now self.old.is_between
+            start (L.state self.old.link.now) old (P.updates self.old.publisher.now)
+            → RunsOrEnds result w h screen self.new.decoder.now self.new.painter.now
+            self.new.is_between start (L.state self.new.link.now) old
+            (P.updates self.new.publisher.now) }
         ensures on { result ≡ None → self.new.is_over ≡ false }
         ensures given { (L.state self.new.link.now).given ≡ (L.state self.old.link.now).given }
-        ensures decoder { (self.new.decoder.now.width ≡ self.old.decoder.now.width) × (self.new.decoder.now.height ≡ self.old.decoder.now.height) }
-        ensures publisher { (P.width self.new.publisher.now ≡ P.width self.old.publisher.now) × (P.height self.new.publisher.now ≡ P.height self.old.publisher.now) }
-        ensures same { (self.new.link.ghost_name ≡ self.old.link.ghost_name) × (self.new.decoder.ghost_name ≡ self.old.decoder.ghost_name) × (self.new.painter.ghost_name ≡ self.old.painter.ghost_name) × (self.new.publisher.ghost_name ≡ self.old.publisher.ghost_name) }
+        ensures decoder { SameScreenSize self.old.decoder.now self.new.decoder.now }
+        ensures publisher { KeepsSize P.width P.height self.old.publisher.now
+            self.new.publisher.now }
+        ensures same { (self.new.link.ghost_name ≡ self.old.link.ghost_name)
+            × (self.new.decoder.ghost_name ≡ self.old.decoder.ghost_name)
+            × (self.new.painter.ghost_name ≡ self.old.painter.ghost_name)
+            × (self.new.publisher.ghost_name ≡ self.old.publisher.ghost_name) }
         ensures first { self.new.first ≡ self.old.first }
     {
         let (answer, is_between, is_over) = hear(

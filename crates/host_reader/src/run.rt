@@ -1,10 +1,11 @@
 //! The host's side of the reflector.
 
 ghost use Rattle.std.specs.Prelude.{◌≡◌, Bool, true, false, IfErr, OnOk};
-ghost use Rattle.host_decoder.specs.Decoder.{Decodes, IsFor, host_message};
+ghost use Rattle.host_decoder.specs.Decoder.{IsFor};
 ghost use Rattle.raster.specs.Screen.{Canvas};
 ghost use Rattle.host_reader.specs.Moment.{EndsSo};
-ghost use Rattle.host_reader.specs.Running.{EndsBetween, EndsWith};
+ghost use Rattle.host_reader.specs.Running.{AwaitsMessage, EndsBetween, EndsWith};
+ghost use Rattle.host_reader.specs.Sizes.{HasSize, KeepsSize, SameScreenSize};
 
 use crate::reading::{HostBeginning, Reading};
 use fault::Fault;
@@ -18,36 +19,55 @@ use std::sync::Wait;
 /// How many bytes are taken from the link at a time, at most.
 const PIECE: usize = 65536;
 
-/// What has a reading take the host's bytes until it ends, as `read_on` does. It is lent the reading and nothing else
-/// that matters, so all that it can do is to call the step.
+/// What reads on, as `read_on` does: it has a reading take the host's bytes until the link ends or a fault comes. Of
+/// what matters it is lent the reading alone, so it can call the reading's step, and nothing else.
 pub trait ReadsOn<L: Link, P: Puts> {
     /// Reads on until the link ends or a fault comes.
     fn read_on(&self, reading: &mut Reading<'_, L, P>) -> Result<(), Fault>
-        requires begins { (screen : Canvas) × Decodes reading.old.decoder.now reading.old.painter.now screen (host_message reading.old.decoder.now.width reading.old.decoder.now.height) }
+        requires begins { (screen : Canvas)
+            × AwaitsMessage reading.old.decoder.now reading.old.painter.now screen }
         requires on { (reading.old.is_between ≡ true) × (reading.old.is_over ≡ false) }
-        ensures reads { (screen : Canvas) → Decodes reading.old.decoder.now reading.old.painter.now screen (host_message reading.old.decoder.now.width reading.old.decoder.now.height) → EndsSo reading.old.decoder.now.width reading.old.decoder.now.height screen result (L.state reading.old.link.now) (L.state reading.new.link.now) (P.updates reading.old.publisher.now) (P.updates reading.new.publisher.now) }
-        ensures given { (L.state reading.new.link.now).given ≡ (L.state reading.old.link.now).given }
-        ensures decoder { (reading.new.decoder.now.width ≡ reading.old.decoder.now.width) × (reading.new.decoder.now.height ≡ reading.old.decoder.now.height) }
+        ensures reads { (screen : Canvas)
+            → AwaitsMessage reading.old.decoder.now reading.old.painter.now screen
+            → EndsSo reading.old.decoder.now.width reading.old.decoder.now.height
+            screen result (L.state reading.old.link.now) (L.state reading.new.link.now)
+            (P.updates reading.old.publisher.now) (P.updates reading.new.publisher.now) }
+        ensures given { (L.state reading.new.link.now).given
+            ≡ (L.state reading.old.link.now).given }
+        ensures decoder { SameScreenSize reading.old.decoder.now reading.new.decoder.now }
         ensures painter { IsFor reading.new.decoder.now reading.new.painter.now }
-        ensures publisher { (P.width reading.new.publisher.now ≡ P.width reading.old.publisher.now) × (P.height reading.new.publisher.now ≡ P.height reading.old.publisher.now) }
-        ensures same { (reading.new.link.ghost_name ≡ reading.old.link.ghost_name) × (reading.new.decoder.ghost_name ≡ reading.old.decoder.ghost_name) × (reading.new.painter.ghost_name ≡ reading.old.painter.ghost_name) × (reading.new.publisher.ghost_name ≡ reading.old.publisher.ghost_name) }
+        ensures publisher { KeepsSize P.width P.height reading.old.publisher.now
+            reading.new.publisher.now }
+        ensures same { (reading.new.link.ghost_name ≡ reading.old.link.ghost_name)
+            × (reading.new.decoder.ghost_name ≡ reading.old.decoder.ghost_name)
+            × (reading.new.painter.ghost_name ≡ reading.old.painter.ghost_name)
+            × (reading.new.publisher.ghost_name ≡ reading.old.publisher.ghost_name) }
         ensures first { reading.new.first ≡ reading.old.first };
 }
 
-/// Has the reading take the host's bytes, piece by piece, until the link ends or a fault comes. It is lent the reading
-/// and nothing else that matters, so all that it can do is to call the step.
+/// Has the reading take the host's bytes, piece by piece, until the link ends or a fault comes. Of what matters it is
+/// lent the reading alone, so it can call the reading's step, and nothing else.
 pub fn read_on<L: Link, P: Puts, R: Wait>(
     rt: &R,
     reading: &mut Reading<'_, L, P>,
 ) -> Result<(), Fault>
-    requires begins { (screen : Canvas) × Decodes reading.old.decoder.now reading.old.painter.now screen (host_message reading.old.decoder.now.width reading.old.decoder.now.height) }
+    requires begins { (screen : Canvas)
+        × AwaitsMessage reading.old.decoder.now reading.old.painter.now screen }
     requires on { (reading.old.is_between ≡ true) × (reading.old.is_over ≡ false) }
-    ensures reads { (screen : Canvas) → Decodes reading.old.decoder.now reading.old.painter.now screen (host_message reading.old.decoder.now.width reading.old.decoder.now.height) → EndsSo reading.old.decoder.now.width reading.old.decoder.now.height screen result (L.state reading.old.link.now) (L.state reading.new.link.now) (P.updates reading.old.publisher.now) (P.updates reading.new.publisher.now) }
+    ensures reads { (screen : Canvas)
+        → AwaitsMessage reading.old.decoder.now reading.old.painter.now screen
+        → EndsSo reading.old.decoder.now.width reading.old.decoder.now.height
+        screen result (L.state reading.old.link.now) (L.state reading.new.link.now)
+        (P.updates reading.old.publisher.now) (P.updates reading.new.publisher.now) }
     ensures given { (L.state reading.new.link.now).given ≡ (L.state reading.old.link.now).given }
-    ensures decoder { (reading.new.decoder.now.width ≡ reading.old.decoder.now.width) × (reading.new.decoder.now.height ≡ reading.old.decoder.now.height) }
+    ensures decoder { SameScreenSize reading.old.decoder.now reading.new.decoder.now }
     ensures painter { IsFor reading.new.decoder.now reading.new.painter.now }
-    ensures publisher { (P.width reading.new.publisher.now ≡ P.width reading.old.publisher.now) × (P.height reading.new.publisher.now ≡ P.height reading.old.publisher.now) }
-    ensures same { (reading.new.link.ghost_name ≡ reading.old.link.ghost_name) × (reading.new.decoder.ghost_name ≡ reading.old.decoder.ghost_name) × (reading.new.painter.ghost_name ≡ reading.old.painter.ghost_name) × (reading.new.publisher.ghost_name ≡ reading.old.publisher.ghost_name) }
+    ensures publisher { KeepsSize P.width P.height reading.old.publisher.now
+        reading.new.publisher.now }
+    ensures same { (reading.new.link.ghost_name ≡ reading.old.link.ghost_name)
+        × (reading.new.decoder.ghost_name ≡ reading.old.decoder.ghost_name)
+        × (reading.new.painter.ghost_name ≡ reading.old.painter.ghost_name)
+        × (reading.new.publisher.ghost_name ≡ reading.old.publisher.ghost_name) }
     ensures first { reading.new.first ≡ reading.old.first }
 {
     for _ in rt.forever() {
@@ -67,15 +87,21 @@ pub fn read_host<L: Link, P: Puts, F: ReadsOn<L, P>>(
     painter: &mut Painter,
     publisher: &mut P,
 ) -> Result<(), Fault>
-    requires begins { (screen : Canvas) × Decodes decoder.old painter.old screen (host_message decoder.old.width decoder.old.height) }
+    requires begins { (screen : Canvas) × AwaitsMessage decoder.old painter.old screen }
     requires painter { IsFor decoder.old painter.old }
-    requires publisher { (P.width publisher.old ≡ decoder.old.width) × (P.height publisher.old ≡ decoder.old.height) }
-    ensures decoder { (decoder.new.width ≡ decoder.old.width) × (decoder.new.height ≡ decoder.old.height) }
+    requires publisher { HasSize P.width P.height publisher.old decoder.old.width
+        decoder.old.height }
+    ensures decoder { SameScreenSize decoder.old decoder.new }
     ensures painter { IsFor decoder.new painter.new }
-    ensures publisher { (P.width publisher.new ≡ P.width publisher.old) × (P.height publisher.new ≡ P.height publisher.old) }
+    ensures publisher { KeepsSize P.width P.height publisher.old publisher.new }
     ensures given { (L.state link.new).given ≡ (L.state link.old).given }
-    ensures ok { OnOk result ((screen : Canvas) → Decodes decoder.old painter.old screen (host_message decoder.old.width decoder.old.height) → EndsBetween decoder.old.width decoder.old.height screen (L.state link.old) (L.state link.new) (P.updates publisher.old) (P.updates publisher.new)) }
-    ensures err { IfErr result (λ fault. (screen : Canvas) → Decodes decoder.old painter.old screen (host_message decoder.old.width decoder.old.height) → EndsWith decoder.old.width decoder.old.height screen fault (L.state link.old) (L.state link.new) (P.updates publisher.old) (P.updates publisher.new)) }
+    ensures ok { OnOk result ((screen : Canvas) → AwaitsMessage decoder.old painter.old screen
+        → EndsBetween decoder.old.width decoder.old.height screen (L.state link.old)
+        (L.state link.new) (P.updates publisher.old) (P.updates publisher.new)) }
+    ensures err { IfErr result (λ fault. (screen : Canvas)
+        → AwaitsMessage decoder.old painter.old screen
+        → EndsWith decoder.old.width decoder.old.height screen fault (L.state link.old)
+        (L.state link.new) (P.updates publisher.old) (P.updates publisher.new)) }
 {
     let mut buffer = vec![in alloc; 0u8; PIECE]?;
     let first = HostBeginning::of(link, decoder, painter, publisher);
@@ -119,15 +145,21 @@ pub fn run_host<L: Link, P: Puts, R: Wait>(
     painter: &mut Painter,
     publisher: &mut P,
 ) -> Result<(), Fault>
-    requires begins { (screen : Canvas) × Decodes decoder.old painter.old screen (host_message decoder.old.width decoder.old.height) }
+    requires begins { (screen : Canvas) × AwaitsMessage decoder.old painter.old screen }
     requires painter { IsFor decoder.old painter.old }
-    requires publisher { (P.width publisher.old ≡ decoder.old.width) × (P.height publisher.old ≡ decoder.old.height) }
-    ensures decoder { (decoder.new.width ≡ decoder.old.width) × (decoder.new.height ≡ decoder.old.height) }
+    requires publisher { HasSize P.width P.height publisher.old decoder.old.width
+        decoder.old.height }
+    ensures decoder { SameScreenSize decoder.old decoder.new }
     ensures painter { IsFor decoder.new painter.new }
-    ensures publisher { (P.width publisher.new ≡ P.width publisher.old) × (P.height publisher.new ≡ P.height publisher.old) }
+    ensures publisher { KeepsSize P.width P.height publisher.old publisher.new }
     ensures given { (L.state link.new).given ≡ (L.state link.old).given }
-    ensures ok { OnOk result ((screen : Canvas) → Decodes decoder.old painter.old screen (host_message decoder.old.width decoder.old.height) → EndsBetween decoder.old.width decoder.old.height screen (L.state link.old) (L.state link.new) (P.updates publisher.old) (P.updates publisher.new)) }
-    ensures err { IfErr result (λ fault. (screen : Canvas) → Decodes decoder.old painter.old screen (host_message decoder.old.width decoder.old.height) → EndsWith decoder.old.width decoder.old.height screen fault (L.state link.old) (L.state link.new) (P.updates publisher.old) (P.updates publisher.new)) }
+    ensures ok { OnOk result ((screen : Canvas) → AwaitsMessage decoder.old painter.old screen
+        → EndsBetween decoder.old.width decoder.old.height screen (L.state link.old)
+        (L.state link.new) (P.updates publisher.old) (P.updates publisher.new)) }
+    ensures err { IfErr result (λ fault. (screen : Canvas)
+        → AwaitsMessage decoder.old painter.old screen
+        → EndsWith decoder.old.width decoder.old.height screen fault (L.state link.old)
+        (L.state link.new) (P.updates publisher.old) (P.updates publisher.new)) }
 {
     read_host(&Waiting { rt }, alloc, link, decoder, painter, publisher)
 }

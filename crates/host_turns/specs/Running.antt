@@ -16,12 +16,14 @@ use Rattle.host_turns.specs.declared.ending.Ending.{Ending}
 
 -- A host's link was read over the opening screen of w by h, to the end that the answer tells. The updates of its
 -- messages were put, after the updates old.
-abbrev pub IsReadOut : ℕ → ℕ → Result (Unit {0}) Fault → (link_old link_new : LinkState) → (old new : List Update) → Type 0
+abbrev pub IsReadOut : ℕ → ℕ → Result (Unit {0}) Fault → (link_old link_new : LinkState)
+    → (old new : List Update) → Type 0
 IsReadOut w h (Ok done) link_old link_new old new = EndsBetween w h opening link_old link_new old new
 IsReadOut w h (Err fault) link_old link_new old new = EndsWith w h opening fault link_old link_new old new
 
 -- And the host was given nothing over that link.
-pub record IsRead (w h : ℕ) (answer : Result (Unit {0}) Fault) (link_old link_new : LinkState) (old new : List Update) : Type 0 where
+pub record IsRead (w h : ℕ) (answer : Result (Unit {0}) Fault) (link_old link_new : LinkState)
+    (old new : List Update) : Type 0 where
   pub out : IsReadOut w h answer link_old link_new old new
   pub given : link_new.given ≡ link_old.given
 
@@ -40,7 +42,8 @@ pub record JoinsWithin (w h : ℕ) (password : Option (List ℕ)) (link_old link
   pub height : host.h ≤ h
 
 -- A host was joined within the room, and then the switch to it was put.
-pub record IsMet (w h : ℕ) (password : Option (List ℕ)) (link_old link_new : LinkState) (old new : List Update) : Type 0 where
+pub record IsMet (w h : ℕ) (password : Option (List ℕ)) (link_old link_new : LinkState) (old new : List Update)
+    : Type 0 where
   pub joins : JoinsWithin w h password link_old link_new
   pub switched : IsSwitched w h joins.host old new
 
@@ -52,7 +55,9 @@ pub record JoinsElsewhere (w h : ℕ) (password : Option (List ℕ)) (link_old l
 
 -- Why a host isn't joined within the room: joining it fails with this fault, or its screen is larger.
 abbrev pub IsUnfit : ℕ → ℕ → Option (List ℕ) → Fault → (link_old link_new : LinkState) → Type 0
-IsUnfit w h password fault link_old link_new = FailsAs password fault link_old link_new ⊎ (JoinsElsewhere w h password link_old link_new × (fault ≡ BadScreen))
+IsUnfit w h password fault link_old link_new =
+    FailsAs password fault link_old link_new
+    ⊎ (JoinsElsewhere w h password link_old link_new × (fault ≡ BadScreen))
 
 -- After this many updates there is want: memory that a host needs is refused, or there is no number for its switch.
 abbrev pub IsWant : ℕ → Fault → Type 0
@@ -61,7 +66,9 @@ IsWant count fault = (fault ≡ Memory) ⊎ ((fault ≡ NumbersOut) × (count �
 -- Why a host that comes over this link is missed, after this many updates: it isn't joined within the room, or it is
 -- joined, and there is want.
 abbrev pub IsMissed : ℕ → ℕ → Option (List ℕ) → (count : ℕ) → Fault → LinkState → Type 0
-IsMissed w h password count fault link = (left : LinkState) × (IsUnfit w h password fault link left ⊎ (JoinsWithin w h password link left × IsWant count fault))
+IsMissed w h password count fault link =
+    (left : LinkState)
+    × (IsUnfit w h password fault link left ⊎ (JoinsWithin w h password link left × IsWant count fault))
 
 -- ---- one host after another
 
@@ -132,8 +139,10 @@ put_with old (Missed has_called fault) = old
 abbrev pub IsTurn : ℕ → ℕ → Option (List ℕ) → (Coming → Type 0) → List Update → Turn → Type 0
 IsTurn w h password comes old (Read stay) =
     (link : LinkState) × comes (came_over stay.has_called link)
-    × ((black : List Update) × IsMet w h password link stay.joined old black × IsRead w h stay.answer stay.joined stay.left black stay.put)
-IsTurn w h password comes old (Missed has_called fault) = (link : LinkState) × comes (came_over has_called link) × IsMissed w h password (length old) fault link
+    × ((black : List Update) × IsMet w h password link stay.joined old black
+    × IsRead w h stay.answer stay.joined stay.left black stay.put)
+IsTurn w h password comes old (Missed has_called fault) =
+    (link : LinkState) × comes (came_over has_called link) × IsMissed w h password (length old) fault link
 
 -- A list of turns has the latest first.
 
@@ -153,11 +162,14 @@ put_by first (t ∷ ts) = put_with (put_by first ts) t
 -- These are turns of hosts that come so. A host is taken only where goes_on is true of the end before it.
 abbrev pub AreTurns : ℕ → ℕ → Option (List ℕ) → (Coming → Type 0) → Stay → List Turn → Type 0
 AreTurns w h password comes first [] = ⊤
-AreTurns w h password comes first (t ∷ ts) = AreTurns w h password comes first ts × (goes_on (last_ending first ts) ≡ true) × IsTurn w h password comes (put_by first ts) t
+AreTurns w h password comes first (t ∷ ts) =
+    AreTurns w h password comes first ts × (goes_on (last_ending first ts) ≡ true)
+    × IsTurn w h password comes (put_by first ts) t
 
 -- A first host was read that had come so, over its link after its join, and then others in turn; the run ended so.
 -- These links, of the hosts that were read, are handed back.
-pub record HasRun (w h : ℕ) (password : Option (List ℕ)) (comes : Coming → Type 0) (last_end : Ending) (came : Coming) (links : List LinkState) (old new : List Update) : Type 0 where
+pub record HasRun (w h : ℕ) (password : Option (List ℕ)) (comes : Coming → Type 0) (last_end : Ending)
+    (came : Coming) (links : List LinkState) (old new : List Update) : Type 0 where
   pub first : Stay
   pub begins : first.joined ≡ came.link
   pub comes_as : first.has_called ≡ came.has_called
@@ -179,7 +191,8 @@ IsOver {H} are_out hosts last_end = (goes_on last_end ≡ false) ⊎ are_out hos
 -- ---- on the way
 
 -- A further host had its turn.
-pub record HasTurn (w h : ℕ) (password : Option (List ℕ)) (comes : Coming → Type 0) (last_end : Ending) (links_old links_new : List LinkState) (old new : List Update) : Type 0 where
+pub record HasTurn (w h : ℕ) (password : Option (List ℕ)) (comes : Coming → Type 0) (last_end : Ending)
+    (links_old links_new : List LinkState) (old new : List Update) : Type 0 where
   pub turn : Turn
   pub is : IsTurn w h password comes old turn
   pub ends : last_end ≡ ending_of turn

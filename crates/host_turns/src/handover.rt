@@ -9,8 +9,8 @@ use std::alloc::Global;
 use std::sync::atomic::{AtomicU64, Ordering};
 use std::sync::{Arc, Condvar, Mutex, Wait};
 
-/// The end of a connection on which a host is to be told, sealed: nothing was given over it, and until `Handover::take`
-/// opens it nobody can give anything.
+/// The end of a connection over which a host is to be told, sealed: nothing was given over it, and nobody can give
+/// anything until `Handover::take` opens it.
 #[derive(Drop)]
 pub struct SealedEnd<L: Link> {
     link: L,

@@ -9,6 +9,8 @@ ghost use Rattle.rfb_wire.specs.Handshake.{Joined};
 ghost use Rattle.link.specs.Joins.{Joins};
 ghost use Rattle.host_decoder.specs.Decoder.{Decodes, IsFor, host_message};
 ghost use Rattle.fault.specs.declared.kinds.Fault.TheVariants.{Memory};
+ghost use Rattle.host_reader.specs.Running.{AwaitsMessage};
+ghost use Rattle.host_reader.specs.Sizes.{HasSize, KeepsSize};
 ghost use Rattle.host_turns.specs.Running.{IsMissed, IsReadOut, IsMet, IsSwitched, IsUnfit, IsWant};
 
 use crate::supply::Hosts;
@@ -43,11 +45,13 @@ pub(crate) fn read<L: Link, P: Puts, F: ReadsOn<L, P>>(
     screen: HostScreen,
     publisher: &mut P,
 ) -> Result<(), Fault>
-    requires begins { Decodes screen.decoder screen.painter opening (host_message screen.decoder.width screen.decoder.height) }
+    requires begins { AwaitsMessage screen.decoder screen.painter opening }
     requires pair { IsFor screen.decoder screen.painter }
-    requires publisher { (P.width publisher.old ≡ screen.decoder.width) × (P.height publisher.old ≡ screen.decoder.height) }
-    ensures publisher { (P.width publisher.new ≡ P.width publisher.old) × (P.height publisher.new ≡ P.height publisher.old) }
-    ensures read { IsReadOut screen.decoder.width screen.decoder.height result (L.state link.old) (L.state link.new) (P.updates publisher.old) (P.updates publisher.new) }
+    requires publisher { HasSize P.width P.height publisher.old screen.decoder.width
+        screen.decoder.height }
+    ensures publisher { KeepsSize P.width P.height publisher.old publisher.new }
+    ensures read { IsReadOut screen.decoder.width screen.decoder.height result (L.state link.old)
+        (L.state link.new) (P.updates publisher.old) (P.updates publisher.new) }
     ensures given { (L.state link.new).given ≡ (L.state link.old).given }
 {
     let HostScreen {
@@ -64,9 +68,13 @@ fn join_within<L: Link, F: JoinsOn<L>>(
     run_screen: &RunScreen,
     link: &mut L,
 ) -> Result<Joined, Fault>
-    ensures joins { IfOk result (λ joined. Joins run_screen.now.password (L.state link.old) (L.state link.new) joined) }
-    ensures fits { IfOk result (λ joined. (joined.w ≤ run_screen.now.width) × (joined.h ≤ run_screen.now.height)) }
-    ensures err { IfErr result (λ fault. IsUnfit run_screen.now.width run_screen.now.height run_screen.now.password fault (L.state link.old) (L.state link.new)) }
+    ensures joins { IfOk result (λ joined.
+        Joins run_screen.now.password (L.state link.old) (L.state link.new) joined) }
+    ensures fits { IfOk result (λ joined.
+        (joined.w ≤ run_screen.now.width) × (joined.h ≤ run_screen.now.height)) }
+    ensures err { IfErr result (λ fault.
+        IsUnfit run_screen.now.width run_screen.now.height run_screen.now.password fault
+        (L.state link.old) (L.state link.new)) }
 {
     let joined = join_by(by, run_screen.password, link)?;
     if joined.w > run_screen.width || joined.h > run_screen.height {
@@ -77,11 +85,15 @@ fn join_within<L: Link, F: JoinsOn<L>>(
 
 /// Puts the patch of a switch to a host of this size: the screen turns black.
 fn put_switch<P: Puts>(patch: Patch, size: Size, publisher: &mut P) -> Result<(), Fault>
-    requires publisher { (P.width publisher.old ≡ patch.width) × (P.height publisher.old ≡ patch.height) }
-    requires same { (start : Canvas) → AreSameUpdates patch.width patch.height start (switch_to size ∷ []) (patch.update ∷ []) }
-    ensures publisher { (P.width publisher.new ≡ P.width publisher.old) × (P.height publisher.new ≡ P.height publisher.old) }
-    ensures ok { OnOk result ((host : Joined) → size ≡ record { width = host.w; height = host.h } → IsSwitched patch.width patch.height host (P.updates publisher.old) (P.updates publisher.new)) }
-    ensures err { IfErr result (λ fault. IsWant (length (P.updates publisher.old)) fault × (P.updates publisher.new ≡ P.updates publisher.old)) }
+    requires publisher { HasSize P.width P.height publisher.old patch.width patch.height }
+    requires same { (start : Canvas)
+        → AreSameUpdates patch.width patch.height start (switch_to size ∷ []) (patch.update ∷ []) }
+    ensures publisher { KeepsSize P.width P.height publisher.old publisher.new }
+    ensures ok { OnOk result ((host : Joined) → size ≡ record { width = host.w; height = host.h }
+        → IsSwitched patch.width patch.height host (P.updates publisher.old)
+        (P.updates publisher.new)) }
+    ensures err { IfErr result (λ fault. IsWant (length (P.updates publisher.old)) fault
+        × (P.updates publisher.new ≡ P.updates publisher.old)) }
 {
     match publisher.put(patch) {
         Ok(_) => Ok(()),
@@ -99,11 +111,17 @@ fn make_ready<L>(
     requires { (size.width ≤ run_screen.now.width) × (size.height ≤ run_screen.now.height) }
     ensures links { links.new.items ≡ links.old.items }
     ensures room { OnOk result (vec_len links.new < vec_capacity links.new) }
-    ensures size { IfOk result (λ made. (made.0.decoder.width ≡ run_screen.now.width) × (made.0.decoder.height ≡ run_screen.now.height)) }
-    ensures begins { IfOk result (λ made. Decodes made.0.decoder made.0.painter opening (host_message run_screen.now.width run_screen.now.height)) }
+    ensures size { IfOk result (λ made. (made.0.decoder.width ≡ run_screen.now.width)
+        × (made.0.decoder.height ≡ run_screen.now.height)) }
+    ensures begins { IfOk result (λ made.
+        Decodes made.0.decoder made.0.painter opening
+        (host_message run_screen.now.width run_screen.now.height)) }
     ensures pair { IfOk result (λ made. IsFor made.0.decoder made.0.painter) }
-    ensures sized { IfOk result (λ made. (made.1.width ≡ run_screen.now.width) × (made.1.height ≡ run_screen.now.height)) }
-    ensures same { IfOk result (λ made. (start : Canvas) → AreSameUpdates run_screen.now.width run_screen.now.height start (switch_to size ∷ []) (made.1.update ∷ [])) }
+    ensures sized { IfOk result (λ made.
+        (made.1.width ≡ run_screen.now.width) × (made.1.height ≡ run_screen.now.height)) }
+    ensures same { IfOk result (λ made. (start : Canvas)
+        → AreSameUpdates run_screen.now.width run_screen.now.height start (switch_to size ∷ [])
+        (made.1.update ∷ [])) }
     ensures err { IfErr result (λ fault. fault ≡ Memory) }
 {
     links.reserve(1)?;
@@ -119,16 +137,23 @@ pub(crate) fn meet<L: Link, H: Hosts<L>, P: Puts, F: JoinsOn<L>>(
     links: &mut Vec<L>,
     publisher: &mut P,
 ) -> Result<HostScreen, Fault>
-    requires { (P.width publisher.old ≡ run_screen.now.width) × (P.height publisher.old ≡ run_screen.now.height) }
-    ensures publisher { (P.width publisher.new ≡ P.width publisher.old) × (P.height publisher.new ≡ P.height publisher.old) }
+    requires { HasSize P.width P.height publisher.old run_screen.now.width run_screen.now.height }
+    ensures publisher { KeepsSize P.width P.height publisher.old publisher.new }
     ensures again { H.again hosts.new ≡ H.again hosts.old }
     ensures links { links.new.items ≡ links.old.items }
     ensures room { OnOk result (vec_len links.new < vec_capacity links.new) }
-    ensures size { IfOk result (λ screen. (screen.decoder.width ≡ run_screen.now.width) × (screen.decoder.height ≡ run_screen.now.height)) }
-    ensures begins { IfOk result (λ screen. Decodes screen.decoder screen.painter opening (host_message run_screen.now.width run_screen.now.height)) }
+    ensures size { IfOk result (λ screen. (screen.decoder.width ≡ run_screen.now.width)
+        × (screen.decoder.height ≡ run_screen.now.height)) }
+    ensures begins { IfOk result (λ screen.
+        Decodes screen.decoder screen.painter opening
+        (host_message run_screen.now.width run_screen.now.height)) }
     ensures pair { IfOk result (λ screen. IsFor screen.decoder screen.painter) }
-    ensures met { OnOk result (IsMet run_screen.now.width run_screen.now.height run_screen.now.password (L.state link.old) (L.state link.new) (P.updates publisher.old) (P.updates publisher.new)) }
-    ensures err { IfErr result (λ fault. IsMissed run_screen.now.width run_screen.now.height run_screen.now.password (length (P.updates publisher.old)) fault (L.state link.old)) }
+    ensures met { OnOk result (IsMet run_screen.now.width run_screen.now.height
+        run_screen.now.password (L.state link.old) (L.state link.new) (P.updates publisher.old)
+        (P.updates publisher.new)) }
+    ensures err { IfErr result (λ fault.
+        IsMissed run_screen.now.width run_screen.now.height run_screen.now.password
+        (length (P.updates publisher.old)) fault (L.state link.old)) }
     ensures unput { OnErr result (P.updates publisher.new ≡ P.updates publisher.old) }
 {
     let joined = join_within(by, run_screen, link)?;

@@ -15,7 +15,7 @@ use rfb_wire::Joined;
 use run_traits::Alarm;
 use std::sync::Wait;
 
-/// The loops over one host, by a handle that may wait. Each is lent what it goes on with, and has nothing else.
+/// The loops over one host, by a handle that may wait. One is lent the host's join, the other the host's reading.
 #[derive(Drop)]
 struct Waiting<'a, R: Wait> {
     rt: &'a R,
@@ -53,9 +53,13 @@ where
     W: Alarm + Drop,
     T: Drop,
     R: Wait,
-    requires begins { Decodes run.screen.decoder run.screen.painter opening (host_message run.run_screen.now.width run.run_screen.now.height) }
+    requires begins { Decodes run.screen.decoder run.screen.painter opening
+        (host_message run.run_screen.now.width run.run_screen.now.height) }
     requires none { run.links.items ≡ [] }
-    ensures run { HasRun run.entry.run_screen.now.width run.entry.run_screen.now.height run.entry.run_screen.now.password (IsComing L.state H.came) result.last (came_over run.entry.has_called (L.state run.entry.reader)) (map L.state result.links.items) (P.updates run.entry.publisher) (P.updates result.publisher) }
+    ensures run { HasRun run.entry.run_screen.now.width run.entry.run_screen.now.height
+        run.entry.run_screen.now.password (IsComing L.state H.came) result.last
+        (came_over run.entry.has_called (L.state run.entry.reader)) (map L.state result.links.items)
+        (P.updates run.entry.publisher) (P.updates result.publisher) }
     ensures over { IsOver H.are_out result.hosts result.last }
     ensures never { goes_on result.last ≡ true → H.again run.entry.first.now.hosts.value ≡ None }
 {

@@ -6,6 +6,7 @@ ghost use Rattle.fault.specs.declared.kinds.Fault.{Fault};
 ghost use Rattle.raster.specs.Screen.{opening};
 ghost use Rattle.host_decoder.specs.Decoder.{Decodes, IsFor, host_message};
 ghost use Rattle.link.specs.Links.{LinkState};
+ghost use Rattle.host_reader.specs.Sizes.{HasSize};
 ghost use Rattle.host_turns.specs.Moment.{IsBegun};
 ghost use Rattle.host_turns.specs.Running.{HasRun, IsComing, IsMet, IsMissed, IsOver, IsRead, came_over, goes_on};
 
@@ -77,11 +78,17 @@ pub struct JoinedRun<'a, L: Link, H: Hosts<L>, P: Puts, W: Alarm + Drop, T: Drop
     first: &'a RunBeginning<L, H, P>,
     key: PhantomData<T>,
     ghost room: { vec_len links < vec_capacity links },
-    ghost sized: { (screen.decoder.width ≡ run_screen.now.width) × (screen.decoder.height ≡ run_screen.now.height) },
-    ghost paired: { (screen.painter.width ≡ screen.decoder.width) × (screen.painter.height ≡ screen.decoder.height) },
-    ghost size: { (P.width publisher ≡ run_screen.now.width) × (P.height publisher ≡ run_screen.now.height) },
+    ghost sized: { (screen.decoder.width ≡ run_screen.now.width)
+        × (screen.decoder.height ≡ run_screen.now.height) },
+    ghost paired: { (screen.painter.width ≡ screen.decoder.width)
+        × (screen.painter.height ≡ screen.decoder.height) },
+    ghost size: { HasSize P.width P.height publisher run_screen.now.width run_screen.now.height },
     ghost again: { H.again hosts ≡ H.again first.now.hosts.value },
-    ghost lawful: { ∥ IsBegun run_screen.now.width run_screen.now.height run_screen.now.password (IsComing L.state H.came) (came_over first.now.has_called.value (L.state first.now.reader.value)) (came_over has_called (L.state reader)) (map L.state links.items) (P.updates first.now.publisher.value) (P.updates publisher) ∥₁ },
+    ghost lawful: { ∥ IsBegun run_screen.now.width run_screen.now.height run_screen.now.password
+        (IsComing L.state H.came)
+        (came_over first.now.has_called.value (L.state first.now.reader.value))
+        (came_over has_called (L.state reader)) (map L.state links.items)
+        (P.updates first.now.publisher.value) (P.updates publisher) ∥₁ },
 }
 
 /// A run between two hosts. Its last end is how reading the last host has ended, or joining it.
@@ -94,9 +101,12 @@ pub struct IdleRun<'a, L: Link, H: Hosts<L>, P: Puts, W: Alarm + Drop, T: Drop> 
     publisher: P,
     first: &'a RunBeginning<L, H, P>,
     key: PhantomData<T>,
-    ghost size: { (P.width publisher ≡ run_screen.now.width) × (P.height publisher ≡ run_screen.now.height) },
+    ghost size: { HasSize P.width P.height publisher run_screen.now.width run_screen.now.height },
     ghost again: { H.again hosts ≡ H.again first.now.hosts.value },
-    ghost lawful: { ∥ HasRun run_screen.now.width run_screen.now.height run_screen.now.password (IsComing L.state H.came) last (came_over first.now.has_called.value (L.state first.now.reader.value)) (map L.state links.items) (P.updates first.now.publisher.value) (P.updates publisher) ∥₁ },
+    ghost lawful: { ∥ HasRun run_screen.now.width run_screen.now.height run_screen.now.password
+        (IsComing L.state H.came) last
+        (came_over first.now.has_called.value (L.state first.now.reader.value))
+        (map L.state links.items) (P.updates first.now.publisher.value) (P.updates publisher) ∥₁ },
 }
 
 /// A run for whose next host both ends of a connection have come: one to be read, and a sealed one to be written. The
@@ -114,9 +124,13 @@ pub struct MetRun<'a, L: Link, H: Hosts<L>, P: Puts, W: Alarm + Drop, T: Drop> {
     first: &'a RunBeginning<L, H, P>,
     key: PhantomData<T>,
     ghost on: { goes_on last ≡ true },
-    ghost size: { (P.width publisher ≡ run_screen.now.width) × (P.height publisher ≡ run_screen.now.height) },
+    ghost size: { HasSize P.width P.height publisher run_screen.now.width run_screen.now.height },
     ghost again: { H.again hosts ≡ H.again first.now.hosts.value },
-    ghost lawful: { ∥ (H.came has_called reader × HasRun run_screen.now.width run_screen.now.height run_screen.now.password (IsComing L.state H.came) last (came_over first.now.has_called.value (L.state first.now.reader.value)) (map L.state links.items) (P.updates first.now.publisher.value) (P.updates publisher)) ∥₁ },
+    ghost lawful: { ∥ (H.came has_called reader
+        × HasRun run_screen.now.width run_screen.now.height run_screen.now.password
+        (IsComing L.state H.came) last
+        (came_over first.now.has_called.value (L.state first.now.reader.value))
+        (map L.state links.items) (P.updates first.now.publisher.value) (P.updates publisher)) ∥₁ },
 }
 
 /// A run that is over: no host is taken after its last end of one, or none is left.
@@ -129,7 +143,10 @@ pub struct EndedRun<'a, L: Link, H: Hosts<L>, P: Puts, W: Alarm + Drop, T: Drop>
     publisher: P,
     first: &'a RunBeginning<L, H, P>,
     key: PhantomData<T>,
-    ghost lawful: { ∥ HasRun run_screen.now.width run_screen.now.height run_screen.now.password (IsComing L.state H.came) last (came_over first.now.has_called.value (L.state first.now.reader.value)) (map L.state links.items) (P.updates first.now.publisher.value) (P.updates publisher) ∥₁ },
+    ghost lawful: { ∥ HasRun run_screen.now.width run_screen.now.height run_screen.now.password
+        (IsComing L.state H.came) last
+        (came_over first.now.has_called.value (L.state first.now.reader.value))
+        (map L.state links.items) (P.updates first.now.publisher.value) (P.updates publisher) ∥₁ },
 }
 
 impl<'a, L: Link, H: Hosts<L>, P: Puts, W: Alarm + Drop, T: Drop> JoinedRun<'a, L, H, P, W, T> {
@@ -146,12 +163,17 @@ impl<'a, L: Link, H: Hosts<L>, P: Puts, W: Alarm + Drop, T: Drop> JoinedRun<'a, 
         links: Vec<L>,
         publisher: P,
     ) -> Self
-        requires first { (first.now.has_called.value ≡ has_called) × (first.now.reader.value ≡ reader) × (first.now.hosts.value ≡ hosts) × (first.now.publisher.value ≡ publisher) }
+        requires first { (first.now.has_called.value ≡ has_called)
+            × (first.now.reader.value ≡ reader) × (first.now.hosts.value ≡ hosts)
+            × (first.now.publisher.value ≡ publisher) }
         requires room { (links.items ≡ []) × (0 < vec_capacity links) }
-        requires size { (screen.decoder.width ≡ run_screen.now.width) × (screen.decoder.height ≡ run_screen.now.height) }
+        requires size { (screen.decoder.width ≡ run_screen.now.width)
+            × (screen.decoder.height ≡ run_screen.now.height) }
         requires pair { IsFor screen.decoder screen.painter }
-        requires publisher { (P.width publisher ≡ run_screen.now.width) × (P.height publisher ≡ run_screen.now.height) }
-        ensures parts { (result.has_called ≡ has_called) × (result.reader ≡ reader) × (result.screen ≡ screen) × (result.links ≡ links) × (result.publisher ≡ publisher) }
+        requires publisher { HasSize P.width P.height publisher run_screen.now.width
+            run_screen.now.height }
+        ensures parts { (result.has_called ≡ has_called) × (result.reader ≡ reader)
+            × (result.screen ≡ screen) × (result.links ≡ links) × (result.publisher ≡ publisher) }
         ensures lent { (result.first ≡ first.entry) × (result.run_screen ≡ run_screen.entry) }
     {
         JoinedRun {
@@ -168,11 +190,17 @@ impl<'a, L: Link, H: Hosts<L>, P: Puts, W: Alarm + Drop, T: Drop> JoinedRun<'a, 
         }
     }
 
-    /// It does nothing. Its clause says what is true of the run at every moment from a host's join on, until the host's
-    /// reading begins, of which `host_reader::Reading::so_far` speaks: what the run was before, how the host was
-    /// joined, and that nothing but its switch was put since.
+    /// It does nothing. Its clause is true at every moment from a host's join until its reading begins: it says what
+    /// the run was before, how the host was joined, and that nothing but its switch was put since. From then on
+    /// `host_reader::Reading::so_far` says what is true.
     pub fn so_far(&self)
-        ensures { ∥ IsBegun self.now.run_screen.now.width self.now.run_screen.now.height self.now.run_screen.now.password (IsComing L.state H.came) (came_over self.now.first.now.has_called.value (L.state self.now.first.now.reader.value)) (came_over self.now.has_called (L.state self.now.reader)) (map L.state self.now.links.items) (P.updates self.now.first.now.publisher.value) (P.updates self.now.publisher) ∥₁ }
+        ensures { ∥ IsBegun self.now.run_screen.now.width self.now.run_screen.now.height
+            self.now.run_screen.now.password (IsComing L.state H.came)
+            (came_over self.now.first.now.has_called.value
+            (L.state self.now.first.now.reader.value))
+            (came_over self.now.has_called (L.state self.now.reader))
+            (map L.state self.now.links.items) (P.updates self.now.first.now.publisher.value)
+            (P.updates self.now.publisher) ∥₁ }
     {}
 
     /// Where the thread that tells the hosts is handed the host's other end.
@@ -180,13 +208,20 @@ impl<'a, L: Link, H: Hosts<L>, P: Puts, W: Alarm + Drop, T: Drop> JoinedRun<'a, 
         self.handover
     }
 
-    /// Reads the host to its end. After that the host is told nothing more, and its link is added to the others. What
-    /// reads on is lent the host's reading, and nothing else.
+    /// Reads the host to its end. After that the host is told nothing more, and its link is added to the others. `by`
+    /// is lent the host's reading, and nothing else.
     pub fn read<F: ReadsOn<L, P>>(self, by: &F) -> IdleRun<'a, L, H, P, W, T>
-        requires { Decodes self.screen.decoder self.screen.painter opening (host_message self.run_screen.now.width self.run_screen.now.height) }
-        ensures called { result.last ≡ record { answer = result.last.answer; has_called = self.entry.has_called } }
-        ensures read { (left : LinkState) × (map L.state result.links.items ≡ map L.state self.entry.links.items ++ left ∷ []) × IsRead self.entry.run_screen.now.width self.entry.run_screen.now.height result.last.answer (L.state self.entry.reader) left (P.updates self.entry.publisher) (P.updates result.publisher) }
-        ensures lent { (result.first ≡ self.entry.first) × (result.run_screen ≡ self.entry.run_screen) }
+        requires { Decodes self.screen.decoder self.screen.painter opening
+            (host_message self.run_screen.now.width self.run_screen.now.height) }
+        ensures called { result.last
+            ≡ record { answer = result.last.answer; has_called = self.entry.has_called } }
+        ensures read { (left : LinkState)
+            × (map L.state result.links.items ≡ map L.state self.entry.links.items ++ left ∷ [])
+            × IsRead self.entry.run_screen.now.width self.entry.run_screen.now.height
+            result.last.answer (L.state self.entry.reader) left (P.updates self.entry.publisher)
+            (P.updates result.publisher) }
+        ensures lent { (result.first ≡ self.entry.first)
+            × (result.run_screen ≡ self.entry.run_screen) }
     {
         let JoinedRun {
             run_screen,
@@ -224,22 +259,30 @@ impl<'a, L: Link, H: Hosts<L>, P: Puts, W: Alarm + Drop, T: Drop> JoinedRun<'a, 
 }
 
 impl<'a, L: Link, H: Hosts<L>, P: Puts, W: Alarm + Drop, T: Drop> IdleRun<'a, L, H, P, W, T> {
-    /// It does nothing. Its clause says what is true of the run at every moment between two hosts: the list that is
-    /// published is that of the bytes that were taken of the hosts, in turn, with a switch before each but the first;
-    /// no host was given anything over the end that was read, after its join; and the links so far are those of the
-    /// hosts that were read.
+    /// It does nothing. Its clause is true at every moment between two hosts. The published updates are those of the
+    /// bytes that were taken of the hosts, in turn, with a switch before each host but the first. After its join no
+    /// host was given anything over the end that is read. The links so far are those of the hosts that were read.
     pub fn so_far(&self)
-        ensures { ∥ HasRun self.now.run_screen.now.width self.now.run_screen.now.height self.now.run_screen.now.password (IsComing L.state H.came) self.now.last (came_over self.now.first.now.has_called.value (L.state self.now.first.now.reader.value)) (map L.state self.now.links.items) (P.updates self.now.first.now.publisher.value) (P.updates self.now.publisher) ∥₁ }
+        ensures { ∥ HasRun self.now.run_screen.now.width self.now.run_screen.now.height
+            self.now.run_screen.now.password (IsComing L.state H.came) self.now.last
+            (came_over self.now.first.now.has_called.value
+            (L.state self.now.first.now.reader.value))
+            (map L.state self.now.links.items) (P.updates self.now.first.now.publisher.value)
+            (P.updates self.now.publisher) ∥₁ }
     {}
 
     /// Asks for the next host, where one is taken after the end of the last. It answers the run that is over where none
     /// is taken, or none is left.
     pub fn next(self) -> Result<MetRun<'a, L, H, P, W, T>, EndedRun<'a, L, H, P, W, T>>
         ensures came { IfOk result (λ met. H.came met.has_called met.reader) }
-        ensures met { IfOk result (λ met. (met.last ≡ self.entry.last) × (met.links ≡ self.entry.links) × (met.publisher ≡ self.entry.publisher) × (met.first ≡ self.entry.first) × (met.run_screen ≡ self.entry.run_screen)) }
-        ensures ended { IfErr result (λ ended. (ended.last ≡ self.entry.last) × (ended.links ≡ self.entry.links) × (ended.publisher ≡ self.entry.publisher)) }
+        ensures met { IfOk result (λ met. (met.last ≡ self.entry.last)
+            × (met.links ≡ self.entry.links) × (met.publisher ≡ self.entry.publisher)
+            × (met.first ≡ self.entry.first) × (met.run_screen ≡ self.entry.run_screen)) }
+        ensures ended { IfErr result (λ ended. (ended.last ≡ self.entry.last)
+            × (ended.links ≡ self.entry.links) × (ended.publisher ≡ self.entry.publisher)) }
         ensures over { IfErr result (λ ended. IsOver H.are_out ended.hosts ended.last) }
-        ensures never { IfErr result (λ ended. goes_on ended.last ≡ true → H.again self.entry.first.now.hosts.value ≡ None) }
+        ensures never { IfErr result (λ ended.
+            goes_on ended.last ≡ true → H.again self.entry.first.now.hosts.value ≡ None) }
     {
         let IdleRun {
             run_screen,
@@ -297,25 +340,43 @@ impl<'a, L: Link, H: Hosts<L>, P: Puts, W: Alarm + Drop, T: Drop> IdleRun<'a, L,
 }
 
 impl<'a, L: Link, H: Hosts<L>, P: Puts, W: Alarm + Drop, T: Drop> MetRun<'a, L, H, P, W, T> {
-    /// It does nothing. Its clause says what is true of the run at every moment from the coming of a host on, until its
-    /// join begins: what the run was before, and that the end to be read is as it came.
+    /// It does nothing. Its clause is true at every moment from a host's coming until its join begins: it says what the
+    /// run was before, and that the end to be read is as it came.
     pub fn so_far(&self)
-        ensures { ∥ (H.came self.now.has_called self.now.reader × HasRun self.now.run_screen.now.width self.now.run_screen.now.height self.now.run_screen.now.password (IsComing L.state H.came) self.now.last (came_over self.now.first.now.has_called.value (L.state self.now.first.now.reader.value)) (map L.state self.now.links.items) (P.updates self.now.first.now.publisher.value) (P.updates self.now.publisher)) ∥₁ }
+        ensures { ∥ (H.came self.now.has_called self.now.reader
+            × HasRun self.now.run_screen.now.width self.now.run_screen.now.height
+            self.now.run_screen.now.password (IsComing L.state H.came) self.now.last
+            (came_over self.now.first.now.has_called.value
+            (L.state self.now.first.now.reader.value))
+            (map L.state self.now.links.items) (P.updates self.now.first.now.publisher.value)
+            (P.updates self.now.publisher)) ∥₁ }
     {}
 
-    /// Joins the host within the room, and then puts the switch to it. It answers the run whose host is joined, with the
-    /// sealed end over which it is told; or the run without the host, where it is missed. What joins on is lent the
+    /// Joins the host within the room, and then puts the switch to it. It answers the run whose host is joined, with
+    /// the sealed end over which the host is told; or the run without the host, where it is missed. `by` is lent the
     /// host's join, and nothing else.
     pub fn join<F: JoinsOn<L>>(
         self,
         by: &F,
     ) -> Result<(JoinedRun<'a, L, H, P, W, T>, SealedEnd<L>), IdleRun<'a, L, H, P, W, T>>
-        ensures met { IfOk result (λ joined. IsMet self.entry.run_screen.now.width self.entry.run_screen.now.height self.entry.run_screen.now.password (L.state self.entry.reader) (L.state joined.0.reader) (P.updates self.entry.publisher) (P.updates joined.0.publisher)) }
-        ensures begins { IfOk result (λ joined. Decodes joined.0.screen.decoder joined.0.screen.painter opening (host_message self.entry.run_screen.now.width self.entry.run_screen.now.height)) }
+        ensures met { IfOk result (λ joined.
+            IsMet self.entry.run_screen.now.width self.entry.run_screen.now.height
+            self.entry.run_screen.now.password (L.state self.entry.reader) (L.state joined.0.reader)
+            (P.updates self.entry.publisher) (P.updates joined.0.publisher)) }
+        ensures begins { IfOk result (λ joined.
+            Decodes joined.0.screen.decoder joined.0.screen.painter opening
+            (host_message self.entry.run_screen.now.width self.entry.run_screen.now.height)) }
         ensures called { IfOk result (λ joined. joined.0.has_called ≡ self.entry.has_called) }
-        ensures joined { IfOk result (λ joined. (joined.0.links.items ≡ self.entry.links.items) × (joined.0.first ≡ self.entry.first) × (joined.0.run_screen ≡ self.entry.run_screen)) }
-        ensures missed { IfErr result (λ run. (fault : Fault) × (run.last ≡ record { answer = Err fault; has_called = self.entry.has_called }) × IsMissed self.entry.run_screen.now.width self.entry.run_screen.now.height self.entry.run_screen.now.password (length (P.updates self.entry.publisher)) fault (L.state self.entry.reader)) }
-        ensures unread { IfErr result (λ run. (run.links.items ≡ self.entry.links.items) × (P.updates run.publisher ≡ P.updates self.entry.publisher) × (run.first ≡ self.entry.first) × (run.run_screen ≡ self.entry.run_screen)) }
+        ensures joined { IfOk result (λ joined. (joined.0.links.items ≡ self.entry.links.items)
+            × (joined.0.first ≡ self.entry.first) × (joined.0.run_screen ≡ self.entry.run_screen)) }
+        ensures missed { IfErr result (λ run. (fault : Fault)
+            × (run.last ≡ record { answer = Err fault; has_called = self.entry.has_called })
+            × IsMissed self.entry.run_screen.now.width self.entry.run_screen.now.height
+            self.entry.run_screen.now.password (length (P.updates self.entry.publisher)) fault
+            (L.state self.entry.reader)) }
+        ensures unread { IfErr result (λ run. (run.links.items ≡ self.entry.links.items)
+            × (P.updates run.publisher ≡ P.updates self.entry.publisher)
+            × (run.first ≡ self.entry.first) × (run.run_screen ≡ self.entry.run_screen)) }
     {
         let MetRun {
             run_screen,
@@ -386,7 +447,8 @@ impl<'a, L: Link, H: Hosts<L>, P: Puts, W: Alarm + Drop, T: Drop> EndedRun<'a, L
     /// What the run had, as it ended: how its last host has ended, where further hosts come from, the links of the
     /// hosts that were read, and the publisher.
     pub fn into_parts(self, _key: T) -> (Ending, H, Vec<L>, P)
-        ensures { (result.0 ≡ self.entry.last) × (result.1 ≡ self.entry.hosts) × (result.2 ≡ self.entry.links) × (result.3 ≡ self.entry.publisher) }
+        ensures { (result.0 ≡ self.entry.last) × (result.1 ≡ self.entry.hosts)
+            × (result.2 ≡ self.entry.links) × (result.3 ≡ self.entry.publisher) }
     {
         let EndedRun {
             run_screen: _,

@@ -15,7 +15,7 @@ use Rattle.link.specs.declared.give.Halt.TheVariants as halt
 use Rattle.link.specs.Halting.{IsWhy}
 use Rattle.host_writer.specs.Saying.{Speech, begun, left_of}
 use Rattle.host_writer.specs.Moment.{Gives, IsOpen, IsTelling, LooksOnce, StopsSaying, Takes, TakesInput}
-use Rattle.host_writer.specs.Writing.{IsJudged, Did, Took, Saw, Looked, Writes, WritesSoFar, EndsWriting, answer_at, whole_request, taken_in, taken_from, all_taken, is_told, told, risen_to, says, said}
+use Rattle.host_writer.specs.Writing.{IsJudged, Did, Took, Saw, Looked, Tells, TellsSoFar, EndsTelling, answer_at, whole_request, taken_in, taken_from, all_taken, is_told, told, risen_to, says, said}
 
 -- ---- giving
 
@@ -242,7 +242,7 @@ asked_once looks a b c d t u v p q r w h asked risen same request speech mid nex
 
 -- What a telling keeps is more than what it promises.
 pub telling_promised : {S : Type 0} (looks : S → ℕ → S → Type 0) (a b : S) (t u : List Message) (p q : StrokesKept) (w h asked : ℕ) (speech : Speech) (old now : LinkState) → IsTelling looks a b t u p q w h asked speech old now
-    → WritesSoFar looks a b t u p q w h old now
+    → TellsSoFar looks a b t u p q w h old now
 telling_promised looks a b t u p q w h asked speech old now k =
     record {
       did = k.did;
@@ -262,7 +262,7 @@ telling_promised looks a b t u p q w h asked speech old now k =
 
 -- The loop is to end.
 pub telling_ends : {S : Type 0} {was_set : Type 0} (looks : S → ℕ → S → Type 0) (a b : S) (t u : List Message) (p q : StrokesKept) (w h asked : ℕ) (speech : Speech) (old now : LinkState) → was_set → IsTelling looks a b t u p q w h asked speech old now → IsOpen old now
-    → Writes looks was_set a b t u p q w h (Ok tt) old now
+    → Tells looks was_set a b t u p q w h (Ok tt) old now
 unfolding telling_promised
 telling_ends looks a b t u p q w h asked speech old now set k is =
     record {
@@ -270,7 +270,7 @@ telling_ends looks a b t u p q w h asked speech old now set k is =
       ends = inl (set, is.0, is.1, omega (arith, length-drop speech.given speech.said));
     }
 
-ends_by : (was_set : Type 0) (x : Halt) (old now new : LinkState) (left last : List ℕ) → now.failed ≡ old.failed → now.ended ≡ old.ended → IsWhy was_set x now new left last → EndsWriting was_set (answer_at x) old new left last
+ends_by : (was_set : Type 0) (x : Halt) (old now new : LinkState) (left last : List ℕ) → now.failed ≡ old.failed → now.ended ≡ old.ended → IsWhy was_set x now new left last → EndsTelling was_set (answer_at x) old new left last
 ends_by was_set halt.Stopped old now new left last f e w = inl (w.0, w.1 ∙ f, w.2 ∙ e, w.3)
 ends_by was_set halt.Before old now new left last f e w = inr (subst (λ n. HasRisen n new.ended) e w.0, w.1 ∙ f, w.2, w.3)
 ends_by was_set halt.Inside old now new left last f e w = (subst (λ n. HasRisen n new.ended) e w.0, w.1, w.2)
@@ -278,7 +278,7 @@ ends_by was_set halt.Failed old now new left last f e w = (subst (λ n. HasRisen
 
 -- Giving stopped.
 pub telling_stops : {S : Type 0} {was_set : Type 0} (looks : S → ℕ → S → Type 0) (a b : S) (t u : List Message) (p q : StrokesKept) (w h asked : ℕ) (speech : Speech) (x : Halt) (old now new : LinkState) → IsTelling looks a b t u p q w h asked speech old new → IsOpen old now
-    → StopsSaying was_set x speech now new → Writes looks was_set a b t u p q w h (answer_at x) old new
+    → StopsSaying was_set x speech now new → Tells looks was_set a b t u p q w h (answer_at x) old new
 unfolding telling_promised
 telling_stops {was_set = was_set} looks a b t u p q w h asked speech x old now new k is why =
     record {

@@ -10,14 +10,18 @@ use Rattle.host_writer.specs.Writing.{Did, IsJudged, Looked, all_taken, last_sai
 
 -- ---- what a telling keeps
 
--- WritesSoFar, where the speech is what is said last, and this number the greatest reply of a look.
-pub record IsTelling {S : Type 0} (looks : S → ℕ → S → Type 0) (source_old source_new : S) (taken_old taken_new : List Message) (strokes_old strokes_new : StrokesKept) (w h asked : ℕ) (speech : Speech) (old new : LinkState) : Type 0 where
+-- TellsSoFar, where the speech is what is said last, and this number the greatest reply of a look.
+pub record IsTelling {S : Type 0} (looks : S → ℕ → S → Type 0) (source_old source_new : S)
+    (taken_old taken_new : List Message) (strokes_old strokes_new : StrokesKept) (w h asked : ℕ)
+    (speech : Speech) (old new : LinkState) : Type 0 where
   pub did : List Did
   pub all : List ℕ
   pub inputs : taken_new ≡ taken_old ++ taken_in did
-  pub strokes : (before : List Taken) → StrokesStand strokes_old before → StrokesStand strokes_new (all_taken before did)
+  pub strokes : (before : List Taken) → StrokesStand strokes_old before
+      → StrokesStand strokes_new (all_taken before did)
   pub looked : Looked looks source_old did source_new
-  pub said : (before : List Taken) → StrokesStand strokes_old before → (all ≡ said before w h did) × (speech.said ≡ last_said before w h did)
+  pub said : (before : List Taken) → StrokesStand strokes_old before
+      → (all ≡ said before w h did) × (speech.said ≡ last_said before w h did)
   pub risen : asked ≡ risen_to did
   pub given : new.given ++ left_of speech ≡ old.given ++ all
   pub taken : new.taken ≡ old.taken
@@ -25,7 +29,8 @@ pub record IsTelling {S : Type 0} (looks : S → ℕ → S → Type 0) (source_o
 -- ---- its steps
 
 -- An input was taken, and its spelling was begun, or the empty one where it doesn't pass.
-pub record TakesInput (taken_old taken_new : List Message) (strokes_old strokes_new : StrokesKept) (speech : Speech) : Type 0 where
+pub record TakesInput (taken_old taken_new : List Message) (strokes_old strokes_new : StrokesKept)
+    (speech : Speech) : Type 0 where
   pub message : Message
   pub bytes : List ℕ
   pub took : taken_new ≡ taken_old ++ message ∷ []
@@ -33,12 +38,16 @@ pub record TakesInput (taken_old taken_new : List Message) (strokes_old strokes_
   pub begins : speech ≡ begun bytes
 
 -- That was done, or there was no input.
-abbrev pub Takes : Bool → (taken_old taken_new : List Message) → (strokes_old strokes_new : StrokesKept) → (speech_old speech_new : Speech) → Type 0
-Takes true taken_old taken_new strokes_old strokes_new speech_old speech_new = TakesInput taken_old taken_new strokes_old strokes_new speech_new
-Takes false taken_old taken_new strokes_old strokes_new speech_old speech_new = (taken_new ≡ taken_old) × (strokes_new ≡ strokes_old) × (speech_new ≡ speech_old)
+abbrev pub Takes : Bool → (taken_old taken_new : List Message) → (strokes_old strokes_new : StrokesKept)
+    → (speech_old speech_new : Speech) → Type 0
+Takes true taken_old taken_new strokes_old strokes_new speech_old speech_new =
+    TakesInput taken_old taken_new strokes_old strokes_new speech_new
+Takes false taken_old taken_new strokes_old strokes_new speech_old speech_new =
+    (taken_new ≡ taken_old) × (strokes_new ≡ strokes_old) × (speech_new ≡ speech_old)
 
 -- The source was looked at, and the request was begun where the look has risen, or else the empty spelling.
-pub record LooksOnce {S : Type 0} (looks : S → ℕ → S → Type 0) (request : List ℕ) (source_old source_new : S) (asked_old asked_new : ℕ) (speech : Speech) : Type 0 where
+pub record LooksOnce {S : Type 0} (looks : S → ℕ → S → Type 0) (request : List ℕ) (source_old source_new : S)
+    (asked_old asked_new : ℕ) (speech : Speech) : Type 0 where
   pub number : ℕ
   pub looked : looks source_old number source_new
   pub risen : asked_new ≡ max asked_old number

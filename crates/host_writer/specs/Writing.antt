@@ -78,12 +78,16 @@ Looked {S} looks old (Saw number ∷ ds) new = (before : S) × Looked looks old 
 -- How it ends, where these bytes of what was said last aren't given. It is Ok where the flag was set, and where the
 -- link said that it ended before the first byte of a spelling. Otherwise the link said that it ended inside a spelling,
 -- or it failed.
-abbrev pub EndsWriting : (was_set : Type 0) → Result (Unit {0}) Fault → (old new : LinkState) → (left last : List ℕ) → Type 0
-EndsWriting was_set (Ok done) old new left last =
-    (was_set × (new.failed ≡ old.failed) × (new.ended ≡ old.ended) × (length left ≤ length last)) ⊎ (HasRisen old.ended new.ended × (new.failed ≡ old.failed) × (left ≡ last) × (0 < length last))
-EndsWriting was_set (Err LinkEnded) old new left last = HasRisen old.ended new.ended × (0 < length left) × (length left < length last)
-EndsWriting was_set (Err LinkFailed) old new left last = HasRisen old.failed new.failed × (0 < length left) × (length left ≤ length last)
-EndsWriting was_set (Err fault) old new left last = ⊥
+abbrev pub EndsTelling : (was_set : Type 0) → Result (Unit {0}) Fault → (old new : LinkState)
+    → (left last : List ℕ) → Type 0
+EndsTelling was_set (Ok done) old new left last =
+    (was_set × (new.failed ≡ old.failed) × (new.ended ≡ old.ended) × (length left ≤ length last))
+    ⊎ (HasRisen old.ended new.ended × (new.failed ≡ old.failed) × (left ≡ last) × (0 < length last))
+EndsTelling was_set (Err LinkEnded) old new left last =
+    HasRisen old.ended new.ended × (0 < length left) × (length left < length last)
+EndsTelling was_set (Err LinkFailed) old new left last =
+    HasRisen old.failed new.failed × (0 < length left) × (length left ≤ length last)
+EndsTelling was_set (Err fault) old new left last = ⊥
 
 -- What is answered where giving stopped for this reason.
 abbrev pub answer_at : Halt → Result (Unit {0}) Fault
@@ -95,27 +99,36 @@ answer_at halt.Failed = Err LinkFailed
 -- So it is at every moment: the host was given all that the writer says, but for the end of what it said last. Where
 -- the strokes stood for the inputs taken before, they stand for all that were taken, and they decide what is said. No
 -- byte was taken of the link.
-pub record WritesSoFar {S : Type 0} (looks : S → ℕ → S → Type 0) (source_old source_new : S) (taken_old taken_new : List Message) (strokes_old strokes_new : StrokesKept) (w h : ℕ) (old new : LinkState) : Type 0 where
+pub record TellsSoFar {S : Type 0} (looks : S → ℕ → S → Type 0) (source_old source_new : S)
+    (taken_old taken_new : List Message) (strokes_old strokes_new : StrokesKept) (w h : ℕ) (old new : LinkState)
+    : Type 0 where
   pub did : List Did
   pub all : List ℕ
   pub last : List ℕ
   pub left : List ℕ
   pub inputs : taken_new ≡ taken_old ++ taken_in did
-  pub strokes : (before : List Taken) → StrokesStand strokes_old before → StrokesStand strokes_new (all_taken before did)
+  pub strokes : (before : List Taken) → StrokesStand strokes_old before
+      → StrokesStand strokes_new (all_taken before did)
   pub looked : Looked looks source_old did source_new
-  pub said : (before : List Taken) → StrokesStand strokes_old before → (all ≡ said before w h did) × (last ≡ last_said before w h did)
+  pub said : (before : List Taken) → StrokesStand strokes_old before
+      → (all ≡ said before w h did) × (last ≡ last_said before w h did)
   pub given : new.given ++ left ≡ old.given ++ all
   pub within : length left ≤ length last
   pub taken : new.taken ≡ old.taken
 
 -- The same, and how the run ended.
-pub record Writes {S : Type 0} (looks : S → ℕ → S → Type 0) (was_set : Type 0) (source_old source_new : S) (taken_old taken_new : List Message) (strokes_old strokes_new : StrokesKept) (w h : ℕ) (answer : Result (Unit {0}) Fault) (old new : LinkState) : Type 0 where
-  pub so_far : WritesSoFar looks source_old source_new taken_old taken_new strokes_old strokes_new w h old new
-  pub ends : EndsWriting was_set answer old new so_far.left so_far.last
+pub record Tells {S : Type 0} (looks : S → ℕ → S → Type 0) (was_set : Type 0) (source_old source_new : S)
+    (taken_old taken_new : List Message) (strokes_old strokes_new : StrokesKept) (w h : ℕ)
+    (answer : Result (Unit {0}) Fault) (old new : LinkState) : Type 0 where
+  pub so_far : TellsSoFar looks source_old source_new taken_old taken_new strokes_old strokes_new w h old new
+  pub ends : EndsTelling was_set answer old new so_far.left so_far.last
 
 -- ---- on the way
 
 -- What is said of an input that was taken after those for which the strokes stood.
 pub record IsJudged (strokes_old strokes_new : StrokesKept) (message : Message) (bytes : List ℕ) : Type 0 where
-  pub said : (taken : List Taken) → StrokesStand strokes_old taken → bytes ≡ (if passes_after (unbroken taken) (taken_from message) then input_bytes (input_in message.input) else [])
-  pub stands : (taken : List Taken) → StrokesStand strokes_old taken → StrokesStand strokes_new (taken ++ taken_from message ∷ [])
+  pub said : (taken : List Taken) → StrokesStand strokes_old taken
+      → bytes ≡ (if passes_after (unbroken taken) (taken_from message)
+      then input_bytes (input_in message.input) else [])
+  pub stands : (taken : List Taken) → StrokesStand strokes_old taken
+      → StrokesStand strokes_new (taken ++ taken_from message ∷ [])

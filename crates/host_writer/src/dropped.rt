@@ -17,17 +17,20 @@ pub trait DropCount {
         ensures { dropped self.new ≡ min LIMIT (dropped self.old + 1) };
 }
 
-/// Whether an input that was taken of this place passes to the host. One that doesn't is counted, and no other.
+/// Whether the host is told an input that was taken of this place. Where it isn't, the input is counted.
 pub(crate) fn passes<D: DropCount>(
     strokes: &mut Strokes,
     drops: &mut D,
     place: u64,
     input: &Input,
 ) -> bool
-    ensures value { (taken : List Taken) → StrokesStand strokes.old taken → result ≡ passes_after (unbroken taken) (input_from place (input_in input.now)) }
-    ensures stands { (taken : List Taken) → StrokesStand strokes.old taken → StrokesStand strokes.new (taken ++ input_from place (input_in input.now) ∷ []) }
+    ensures value { (taken : List Taken) → StrokesStand strokes.old taken
+        → result ≡ passes_after (unbroken taken) (input_from place (input_in input.now)) }
+    ensures stands { (taken : List Taken) → StrokesStand strokes.old taken
+        → StrokesStand strokes.new (taken ++ input_from place (input_in input.now) ∷ []) }
     ensures places { length strokes.new.counts ≡ length strokes.old.counts }
-    ensures counted { D.dropped drops.new ≡ (if result then D.dropped drops.old else min LIMIT (D.dropped drops.old + 1)) }
+    ensures counted { D.dropped drops.new
+        ≡ (if result then D.dropped drops.old else min LIMIT (D.dropped drops.old + 1)) }
 {
     let passes = strokes.passes(place, input);
     if !passes {

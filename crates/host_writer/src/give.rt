@@ -7,12 +7,13 @@ ghost use Rattle.host_writer.specs.Moment.{Gives, IsOpen, StopsSaying};
 use crate::saying::Saying;
 use link::{Gave, Halt, Link};
 
-/// Gives the link as many as it takes now of the bytes that are left. It answers whether it took any, or why no
-/// more are given over it.
+/// Gives the link the bytes that are left, as many as it takes now. It answers whether the link took any, or why
+/// nothing more can be given over it.
 pub(crate) fn give<L: Link>(link: &mut L, saying: &mut Saying) -> Result<bool, Halt>
     requires { 0 < length (left_of saying.old) }
     ensures gives { Gives saying.old saying.new (L.state link.old) (L.state link.new) }
-    ensures stops { MatchResult result (λ _. IsOpen (L.state link.old) (L.state link.new)) (λ halt. StopsSaying ⊥ halt saying.new (L.state link.old) (L.state link.new)) }
+    ensures stops { MatchResult result (λ _. IsOpen (L.state link.old) (L.state link.new))
+        (λ halt. StopsSaying ⊥ halt saying.new (L.state link.old) (L.state link.new)) }
 {
     match link.give(saying.front()) {
         Gave::Bytes(count) => {

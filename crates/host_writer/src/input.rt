@@ -9,8 +9,8 @@ use crate::input_source::InputSource;
 use crate::saying::Saying;
 use roles::Strokes;
 
-/// Takes the next input of the relay, and begins its spelling where it passes after all that was taken before. It
-/// answers whether there was one. One that doesn't pass is counted.
+/// Takes the next input of the relay, and answers whether there was one. Where the input passes, after all that was
+/// taken before, its spelling is begun; where it doesn't, it is counted.
 pub(crate) fn take_input<K: InputSource, D: DropCount>(
     taker: &mut K,
     strokes: &mut Strokes,
@@ -19,8 +19,10 @@ pub(crate) fn take_input<K: InputSource, D: DropCount>(
 ) -> bool
     ensures relay { K.relay taker.new ≡ K.relay taker.old }
     ensures places { length strokes.new.counts ≡ length strokes.old.counts }
-    ensures counted { IsCounted (K.taken taker.old) strokes.old (D.dropped drops.old) → IsCounted (K.taken taker.new) strokes.new (D.dropped drops.new) }
-    ensures takes { Takes result (K.taken taker.old) (K.taken taker.new) strokes.old strokes.new saying.old saying.new }
+    ensures counted { IsCounted (K.taken taker.old) strokes.old (D.dropped drops.old)
+        → IsCounted (K.taken taker.new) strokes.new (D.dropped drops.new) }
+    ensures takes { Takes result (K.taken taker.old) (K.taken taker.new) strokes.old strokes.new
+        saying.old saying.new }
 {
     match taker.take() {
         Some((place, input)) => {

@@ -23,7 +23,8 @@ pub trait InputSource {
 
     /// The input that has waited longest, with the number of its place; `None` where none waits.
     fn take(&mut self) -> Option<(u64, Input)>
-        ensures some { IfSome result (λ r. taken self.new ≡ taken self.old ++ message r.0 r.1 ∷ []) }
+        ensures some { IfSome result (λ r.
+            taken self.new ≡ taken self.old ++ message r.0 r.1 ∷ []) }
         ensures none { IfNone result (taken self.new ≡ taken self.old) }
         ensures same { relay self.new ≡ relay self.old };
 }

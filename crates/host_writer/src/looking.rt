@@ -5,8 +5,8 @@ ghost use Rattle.host_writer.specs.Moment.{LooksOnce};
 use crate::saying::{REQUEST_LEN, Saying};
 use reflect_core::ScreenSource;
 
-/// Looks at the source, and begins the request where the look replies more than every look before it, or the first more
-/// than 0. It answers whether it did.
+/// Looks at the source. Where the reply is above 0 and above each reply before it, the request is begun. It answers
+/// whether that is so.
 pub(crate) fn look<S: ScreenSource>(
     source: &mut S,
     asked: &mut u64,

@@ -4,7 +4,7 @@ ghost use Rattle.std.specs.Prelude.{◌≡◌, [], MatchResult, length};
 ghost use Rattle.host_writer.specs.Dropping.{IsCounted};
 ghost use Rattle.host_writer.specs.Moment.{Gives, IsOpen, StopsSaying};
 ghost use Rattle.host_writer.specs.Saying.{begun, left_of};
-ghost use Rattle.host_writer.specs.Writing.{Writes, answer_at, whole_request};
+ghost use Rattle.host_writer.specs.Writing.{Tells, answer_at, whole_request};
 
 use crate::dropped::DropCount;
 use crate::input_source::InputSource;
@@ -40,9 +40,18 @@ where
     T: Drop,
     F: StopFlag,
     R: Wait,
-    ensures gives { Gives telling.old.saying telling.new.saying (L.state telling.old.link) (L.state telling.new.link) }
-    ensures stops { MatchResult result (λ _. IsOpen (L.state telling.old.link) (L.state telling.new.link) × (left_of telling.new.saying ≡ [])) (λ halt. StopsSaying (F.was_set stop.now) halt telling.new.saying (L.state telling.old.link) (L.state telling.new.link)) }
-    ensures others { (telling.new.source ≡ telling.old.source) × (telling.new.taker ≡ telling.old.taker) × (telling.new.strokes ≡ telling.old.strokes) × (telling.new.drops ≡ telling.old.drops) × (telling.new.request ≡ telling.old.request) × (telling.new.asked ≡ telling.old.asked) × (telling.new.first ≡ telling.old.first) }
+    ensures gives { Gives telling.old.saying telling.new.saying (L.state telling.old.link)
+        (L.state telling.new.link) }
+    ensures stops { MatchResult result
+        (λ _. IsOpen (L.state telling.old.link) (L.state telling.new.link)
+        × (left_of telling.new.saying ≡ []))
+        (λ halt.
+        StopsSaying (F.was_set stop.now) halt telling.new.saying (L.state telling.old.link)
+        (L.state telling.new.link)) }
+    ensures others { (telling.new.source ≡ telling.old.source)
+        × (telling.new.taker ≡ telling.old.taker) × (telling.new.strokes ≡ telling.old.strokes)
+        × (telling.new.drops ≡ telling.old.drops) × (telling.new.request ≡ telling.old.request)
+        × (telling.new.asked ≡ telling.old.asked) × (telling.new.first ≡ telling.old.first) }
 {
     for _ in rt.forever() {
         if !telling.has_left() {
@@ -56,9 +65,9 @@ where
     unreachable!()
 }
 
-/// Tells the host the inputs that it takes of the relay, one after another. Each time a look replies more than every
-/// look before it, or the first more than 0, it asks once for what is new of the whole screen (RFC 6143, 7.5.3). It
-/// rests where no input was taken and the look hasn't risen.
+/// Tells the host the inputs that it takes of the relay, one after another. For each look whose reply is above 0 and
+/// above each reply before it, it asks once for what is new of the whole screen (RFC 6143, 7.5.3). It rests where no
+/// input was taken and the look hasn't risen.
 ///
 /// The host is told the inputs that the strokes let pass: none of a place while another has a key or a button down. An
 /// input that doesn't pass is counted in the strokes for its place, and in the drops for all places together.
@@ -67,7 +76,7 @@ where
 /// where the link ends inside a spelling, and `LinkFailed` where the link fails. In each case the end of what was said
 /// last may be missing.
 ///
-/// It is lent the telling and nothing else that matters, so all that it can do is to call the steps, and to rest.
+/// Of what matters it is lent the telling alone: it can call the telling's steps, and rest, and nothing else.
 pub fn run_writer<L, S, K, D, T, F, Z, R>(
     rt: &R,
     telling: &mut Telling<'_, L, S, K, D, T>,
@@ -84,11 +93,17 @@ where
     Z: Rest,
     R: Wait,
     requires begins { (telling.old.saying ≡ begun []) × (telling.old.asked ≡ 0) }
-    requires whole { telling.old.request ≡ whole_request (S.width telling.old.source) (S.height telling.old.source) }
+    requires whole { telling.old.request
+        ≡ whole_request (S.width telling.old.source) (S.height telling.old.source) }
     ensures relay { K.relay telling.new.taker ≡ K.relay telling.old.taker }
     ensures places { length telling.new.strokes.counts ≡ length telling.old.strokes.counts }
-    ensures counted { IsCounted (K.taken telling.old.taker) telling.old.strokes (D.dropped telling.old.drops) → IsCounted (K.taken telling.new.taker) telling.new.strokes (D.dropped telling.new.drops) }
-    ensures writes { Writes S.looks (F.was_set stop.now) telling.old.source telling.new.source (K.taken telling.old.taker) (K.taken telling.new.taker) telling.old.strokes telling.new.strokes (S.width telling.old.source) (S.height telling.old.source) result (L.state telling.old.link) (L.state telling.new.link) }
+    ensures counted { IsCounted (K.taken telling.old.taker) telling.old.strokes
+        (D.dropped telling.old.drops)
+        → IsCounted (K.taken telling.new.taker) telling.new.strokes (D.dropped telling.new.drops) }
+    ensures tells { Tells S.looks (F.was_set stop.now) telling.old.source telling.new.source
+        (K.taken telling.old.taker) (K.taken telling.new.taker) telling.old.strokes
+        telling.new.strokes (S.width telling.old.source)
+        (S.height telling.old.source) result (L.state telling.old.link) (L.state telling.new.link) }
     ensures first { telling.new.first ≡ telling.old.first }
 {
     for _ in rt.forever() {

@@ -35,7 +35,8 @@ impl Model for Saying {
 
     ghost view = { λ s. record { said = take s.len s.head ++ text_in s.text; given = s.given } };
 
-    ghost invariant = { λ s. (s.len ≤ length s.head) × (length (text_in s.text) ≤ longest_text) × (s.given ≤ s.len + length (text_in s.text)) };
+    ghost invariant = { λ s. (s.len ≤ length s.head) × (length (text_in s.text) ≤ longest_text)
+        × (s.given ≤ s.len + length (text_in s.text)) };
 }
 
 /// The bytes of a text, if there is one.
@@ -136,7 +137,7 @@ impl Saying {
         self.given > 0
     }
 
-    /// The bytes that are given next, from the front of what is left: at least one, unless nothing is.
+    /// The bytes that are given next, from the front of what is left: at least one, unless nothing is left.
     pub(crate) fn front(&self) -> &[u8]
         ensures value { result.now ≡ take (length result.now) (left_of self.now) }
         ensures some { length result.now ≡ 0 → left_of self.now ≡ [] }

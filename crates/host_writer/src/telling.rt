@@ -5,7 +5,7 @@ ghost use Rattle.raster.specs.Size.{IsScreenSize};
 ghost use Rattle.host_writer.specs.Dropping.{IsCounted};
 ghost use Rattle.host_writer.specs.Saying.{begun, left_of};
 ghost use Rattle.host_writer.specs.Moment.{Gives, IsOpen, IsTelling, LooksOnce, StopsSaying, Takes};
-ghost use Rattle.host_writer.specs.Writing.{WritesSoFar, whole_request};
+ghost use Rattle.host_writer.specs.Writing.{TellsSoFar, whole_request};
 
 use crate::dropped::DropCount;
 use crate::give::give;
@@ -59,8 +59,8 @@ impl<L, S, K, D> TellBeginning<L, S, K, D> {
     }
 }
 
-/// A host's link, the source of the looks, what inputs are taken of and judged by, the count of those that aren't told,
-/// and what is being said.
+/// What it takes to tell one host: its link, the source that is looked at, what the inputs are taken of, the strokes
+/// by which they are judged, the count of those that aren't told, and what is being said.
 ///
 /// While a telling has them nobody else does, and a telling does with them only what its steps do. No step takes a
 /// handle, so each is proved to come to its end, as far as the link, the source and the taker do, and there `lawful`
@@ -80,9 +80,15 @@ pub struct Telling<'a, L: Link, S: ScreenSource, K: InputSource, D: DropCount, T
     // How it all began. It is lent, so no step can put another beginning in its place.
     first: &'a TellBeginning<L, S, K, D>,
     key: PhantomData<T>,
-    ghost whole: { request ≡ whole_request (S.width first.now.source.value) (S.height first.now.source.value) },
-    ghost counted: { ∥ (IsCounted (K.taken first.now.taker.value) first.now.strokes.value (D.dropped first.now.drops.value) → IsCounted (K.taken taker) strokes (D.dropped drops)) ∥₁ },
-    ghost lawful: { ∥ IsTelling S.looks first.now.source.value source (K.taken first.now.taker.value) (K.taken taker) first.now.strokes.value strokes (S.width first.now.source.value) (S.height first.now.source.value) asked saying (L.state first.now.link.value) (L.state link) ∥₁ },
+    ghost whole: { request
+        ≡ whole_request (S.width first.now.source.value) (S.height first.now.source.value) },
+    ghost counted: { ∥ (IsCounted (K.taken first.now.taker.value) first.now.strokes.value
+        (D.dropped first.now.drops.value)
+        → IsCounted (K.taken taker) strokes (D.dropped drops)) ∥₁ },
+    ghost lawful: { ∥ IsTelling S.looks first.now.source.value source
+        (K.taken first.now.taker.value) (K.taken taker) first.now.strokes.value strokes
+        (S.width first.now.source.value) (S.height first.now.source.value) asked saying
+        (L.state first.now.link.value) (L.state link) ∥₁ },
 }
 
 impl<'a, L: Link, S: ScreenSource, K: InputSource, D: DropCount, T: Drop> Telling<
@@ -102,10 +108,14 @@ impl<'a, L: Link, S: ScreenSource, K: InputSource, D: DropCount, T: Drop> Tellin
         strokes: Strokes,
         drops: D,
     ) -> Self
-        requires first { (first.now.link.value ≡ link) × (first.now.source.value ≡ source) × (first.now.taker.value ≡ taker) × (first.now.strokes.value ≡ strokes) × (first.now.drops.value ≡ drops) }
+        requires first { (first.now.link.value ≡ link) × (first.now.source.value ≡ source)
+            × (first.now.taker.value ≡ taker) × (first.now.strokes.value ≡ strokes)
+            × (first.now.drops.value ≡ drops) }
         requires screen { IsScreenSize (S.width source) (S.height source) }
-        ensures parts { (result.link ≡ link) × (result.source ≡ source) × (result.taker ≡ taker) × (result.strokes ≡ strokes) × (result.drops ≡ drops) }
-        ensures begins { (result.saying ≡ begun []) × (result.asked ≡ 0) × (result.request ≡ whole_request (S.width source) (S.height source)) }
+        ensures parts { (result.link ≡ link) × (result.source ≡ source) × (result.taker ≡ taker)
+            × (result.strokes ≡ strokes) × (result.drops ≡ drops) }
+        ensures begins { (result.saying ≡ begun []) × (result.asked ≡ 0)
+            × (result.request ≡ whole_request (S.width source) (S.height source)) }
         ensures first { result.first ≡ first.entry }
     {
         let (width, height) = source.size();
@@ -125,7 +135,9 @@ impl<'a, L: Link, S: ScreenSource, K: InputSource, D: DropCount, T: Drop> Tellin
 
     /// What the telling had, as it is left.
     pub fn into_parts(self, _key: T) -> (L, S, K, Strokes, D)
-        ensures { (result.0 ≡ self.entry.link) × (result.1 ≡ self.entry.source) × (result.2 ≡ self.entry.taker) × (result.3 ≡ self.entry.strokes) × (result.4 ≡ self.entry.drops) }
+        ensures { (result.0 ≡ self.entry.link) × (result.1 ≡ self.entry.source)
+            × (result.2 ≡ self.entry.taker) × (result.3 ≡ self.entry.strokes)
+            × (result.4 ≡ self.entry.drops) }
     {
         let Telling {
             link,
@@ -144,8 +156,14 @@ impl<'a, L: Link, S: ScreenSource, K: InputSource, D: DropCount, T: Drop> Tellin
 
     /// It does nothing. Its clauses say what is true of the telling at every moment.
     pub fn so_far(&self)
-        ensures writes { ∥ WritesSoFar S.looks self.now.first.now.source.value self.now.source (K.taken self.now.first.now.taker.value) (K.taken self.now.taker) self.now.first.now.strokes.value self.now.strokes (S.width self.now.first.now.source.value) (S.height self.now.first.now.source.value) (L.state self.now.first.now.link.value) (L.state self.now.link) ∥₁ }
-        ensures counted { ∥ (IsCounted (K.taken self.now.first.now.taker.value) self.now.first.now.strokes.value (D.dropped self.now.first.now.drops.value) → IsCounted (K.taken self.now.taker) self.now.strokes (D.dropped self.now.drops)) ∥₁ }
+        ensures tells { ∥ TellsSoFar S.looks self.now.first.now.source.value self.now.source
+            (K.taken self.now.first.now.taker.value) (K.taken self.now.taker)
+            self.now.first.now.strokes.value self.now.strokes
+            (S.width self.now.first.now.source.value) (S.height self.now.first.now.source.value)
+            (L.state self.now.first.now.link.value) (L.state self.now.link) ∥₁ }
+        ensures counted { ∥ (IsCounted (K.taken self.now.first.now.taker.value)
+            self.now.first.now.strokes.value (D.dropped self.now.first.now.drops.value)
+            → IsCounted (K.taken self.now.taker) self.now.strokes (D.dropped self.now.drops)) ∥₁ }
     {}
 
     /// Whether bytes are left to give of what is said.
@@ -156,15 +174,20 @@ impl<'a, L: Link, S: ScreenSource, K: InputSource, D: DropCount, T: Drop> Tellin
         !self.saying.front().is_empty()
     }
 
-    /// Takes the next input, once all that was said is given, and begins its spelling where it passes. It answers
-    /// whether there was one.
+    /// Takes the next input, once all that was said is given, and answers whether there was one. Where the input
+    /// passes, its spelling is begun.
     pub(crate) fn take_input(&mut self) -> bool
         requires { left_of self.old.saying ≡ [] }
         ensures relay { K.relay self.new.taker ≡ K.relay self.old.taker }
         ensures places { length self.new.strokes.counts ≡ length self.old.strokes.counts }
-        ensures counted { IsCounted (K.taken self.old.taker) self.old.strokes (D.dropped self.old.drops) → IsCounted (K.taken self.new.taker) self.new.strokes (D.dropped self.new.drops) }
-        ensures takes { Takes result (K.taken self.old.taker) (K.taken self.new.taker) self.old.strokes self.new.strokes self.old.saying self.new.saying }
-        ensures others { (self.new.link ≡ self.old.link) × (self.new.source ≡ self.old.source) × (self.new.request ≡ self.old.request) × (self.new.asked ≡ self.old.asked) × (self.new.first ≡ self.old.first) }
+        ensures counted { IsCounted (K.taken self.old.taker) self.old.strokes
+            (D.dropped self.old.drops)
+            → IsCounted (K.taken self.new.taker) self.new.strokes (D.dropped self.new.drops) }
+        ensures takes { Takes result (K.taken self.old.taker) (K.taken self.new.taker)
+            self.old.strokes self.new.strokes self.old.saying self.new.saying }
+        ensures others { (self.new.link ≡ self.old.link) × (self.new.source ≡ self.old.source)
+            × (self.new.request ≡ self.old.request) × (self.new.asked ≡ self.old.asked)
+            × (self.new.first ≡ self.old.first) }
     {
         take_input(
             &mut self.taker,
@@ -178,8 +201,11 @@ impl<'a, L: Link, S: ScreenSource, K: InputSource, D: DropCount, T: Drop> Tellin
     /// did.
     pub(crate) fn look(&mut self) -> bool
         requires { left_of self.old.saying ≡ [] }
-        ensures looks { LooksOnce S.looks self.old.request self.old.source self.new.source self.old.asked self.new.asked self.new.saying }
-        ensures others { (self.new.link ≡ self.old.link) × (self.new.taker ≡ self.old.taker) × (self.new.strokes ≡ self.old.strokes) × (self.new.drops ≡ self.old.drops) × (self.new.request ≡ self.old.request) × (self.new.first ≡ self.old.first) }
+        ensures looks { LooksOnce S.looks self.old.request self.old.source self.new.source
+            self.old.asked self.new.asked self.new.saying }
+        ensures others { (self.new.link ≡ self.old.link) × (self.new.taker ≡ self.old.taker)
+            × (self.new.strokes ≡ self.old.strokes) × (self.new.drops ≡ self.old.drops)
+            × (self.new.request ≡ self.old.request) × (self.new.first ≡ self.old.first) }
     {
         look(
             &mut self.source,
@@ -189,13 +215,20 @@ impl<'a, L: Link, S: ScreenSource, K: InputSource, D: DropCount, T: Drop> Tellin
         )
     }
 
-    /// Gives the link as many as it takes now of the bytes that are left. It answers whether it took any, or why no
-    /// more are given over it.
+    /// Gives the link the bytes that are left, as many as it takes now. It answers whether the link took any, or why
+    /// nothing more can be given over it.
     pub(crate) fn give(&mut self) -> Result<bool, Halt>
         requires { 0 < length (left_of self.old.saying) }
-        ensures gives { Gives self.old.saying self.new.saying (L.state self.old.link) (L.state self.new.link) }
-        ensures stops { MatchResult result (λ _. IsOpen (L.state self.old.link) (L.state self.new.link)) (λ halt. StopsSaying ⊥ halt self.new.saying (L.state self.old.link) (L.state self.new.link)) }
-        ensures others { (self.new.source ≡ self.old.source) × (self.new.taker ≡ self.old.taker) × (self.new.strokes ≡ self.old.strokes) × (self.new.drops ≡ self.old.drops) × (self.new.request ≡ self.old.request) × (self.new.asked ≡ self.old.asked) × (self.new.first ≡ self.old.first) }
+        ensures gives { Gives self.old.saying self.new.saying (L.state self.old.link)
+            (L.state self.new.link) }
+        ensures stops { MatchResult result
+            (λ _. IsOpen (L.state self.old.link) (L.state self.new.link))
+            (λ halt.
+            StopsSaying ⊥ halt self.new.saying (L.state self.old.link) (L.state self.new.link)) }
+        ensures others { (self.new.source ≡ self.old.source) × (self.new.taker ≡ self.old.taker)
+            × (self.new.strokes ≡ self.old.strokes) × (self.new.drops ≡ self.old.drops)
+            × (self.new.request ≡ self.old.request) × (self.new.asked ≡ self.old.asked)
+            × (self.new.first ≡ self.old.first) }
     {
         give(&mut self.link, &mut self.saying)
     }

@@ -18,12 +18,12 @@ loop-init g c = (
   },
 )
 
-pub returns-then-is_set-clause-writes : goal.returns-then-is_set-clause-writes
-returns-then-is_set-clause-writes g c =
+pub returns-then-is_set-clause-tells : goal.returns-then-is_set-clause-tells
+returns-then-is_set-clause-tells g c =
     telling_ends _ _ _ _ _ _ _ _ _ _ _ (g.L.Link.state c.args.telling.now.link) (g.L.Link.state c.loop.telling.link) (c.is_set.ensures c.if-is_set.true) c.loop.invariant.2.telling c.loop.invariant.2.is_open
 
-pub returns-in-Err-clause-writes : goal.returns-in-Err-clause-writes
-returns-in-Err-clause-writes g c =
+pub returns-in-Err-clause-tells : goal.returns-in-Err-clause-tells
+returns-in-Err-clause-tells g c =
     let inv = c.loop.invariant.2 in
     let told = told_input g.S.ScreenSource.looks _ _ _ _ _ _ _ _ _ _ _ _ _ _ _ c.take_input-was_taken.result _ _ _ (g.L.Link.state c.args.telling.now.link) (g.L.Link.state c.loop.telling.link) (g.L.Link.state c.take_input-was_taken.new.self.link) (g.L.Link.state c.give_out.new.telling.link) inv.telling inv.idle c.take_input-was_taken.ensures.takes c.give_out.ensures.gives (ap g.L.Link.state c.take_input-was_taken.ensures.others.0)
     (c.give_out.ensures.others.0 ∙ c.take_input-was_taken.ensures.others.1) (ap g.K.InputSource.taken c.give_out.ensures.others.1) (c.give_out.ensures.others.2) (c.give_out.ensures.others.5 ∙ c.take_input-was_taken.ensures.others.3) in
@@ -46,8 +46,8 @@ pub returns-in-Err-clause-first : goal.returns-in-Err-clause-first
 returns-in-Err-clause-first g c =
     c.give_out.ensures.others.6 ∙ (c.take_input-was_taken.ensures.others.4 ∙ c.loop.invariant.2.first)
 
-pub returns-in-Err-give_out-clause-writes : goal.returns-in-Err-give_out-clause-writes
-returns-in-Err-give_out-clause-writes g c =
+pub returns-in-Err-give_out-clause-tells : goal.returns-in-Err-give_out-clause-tells
+returns-in-Err-give_out-clause-tells g c =
     let inv = c.loop.invariant.2 in
     let told = told_input g.S.ScreenSource.looks _ _ _ _ _ _ _ _ _ _ _ _ _ _ _ c.take_input-was_taken.result _ _ _ (g.L.Link.state c.args.telling.now.link) (g.L.Link.state c.loop.telling.link) (g.L.Link.state c.take_input-was_taken.new.self.link) (g.L.Link.state c.give_out.new.telling.link) inv.telling inv.idle c.take_input-was_taken.ensures.takes c.give_out.ensures.gives (ap g.L.Link.state c.take_input-was_taken.ensures.others.0)
     (c.give_out.ensures.others.0 ∙ c.take_input-was_taken.ensures.others.1) (ap g.K.InputSource.taken c.give_out.ensures.others.1) (c.give_out.ensures.others.2) (c.give_out.ensures.others.5 ∙ c.take_input-was_taken.ensures.others.3) in
