@@ -45,6 +45,7 @@ impl Piece {
                 kind: Encoding::Raw,
                 copy: false,
                 resizes: false,
+                zrle: false,
             },
         };
         let mut answer = Answer::start(cut, &ALL, style);

@@ -86,6 +86,7 @@ fn answer(alloc: Global, cut: &Cut, given: &Values, seen: &mut Values) -> Option
             kind: Encoding::of_number(u32::try_from(*kind).ok()?)?,
             copy: *copy == 1,
             resizes: false,
+            zrle: false,
         },
     };
     if !area.within(cut.width, cut.height) {

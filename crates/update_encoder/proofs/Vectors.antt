@@ -18,7 +18,7 @@ abbrev rect : ℕ → ℕ → ℕ → ℕ → Rect
 rect x y w h = record { x = x; y = y; w = w; h = h }
 
 abbrev with_copies : Choice
-with_copies = record { kind = Raw; copy = true; resizes = false }
+with_copies = record { kind = Raw; copy = true; resizes = false; zrle = false }
 
 -- A style with the runs of rows, and one with joined runs.
 abbrev of_rows : PixelFormat → Choice → Style
@@ -61,7 +61,7 @@ no_copy_over_a_gap = refl
 pub no_copy_of_new_tiles : answer_bytes (of_rows bgr233 with_copies) red false (rect 0 0 1 1 ∷ rect 0 1 1 1 ∷ []) ≡ (0 ∷ 0 ∷ 0 ∷ 2 ∷ []) ++ raw_head 0 ++ (7 ∷ []) ++ raw_head 1 ++ 7 ∷ []
 no_copy_of_new_tiles = refl
 
-pub no_copy_unasked : answer_bytes (of_rows bgr233 (record { kind = Raw; copy = false; resizes = false })) red true (rect 0 0 1 1 ∷ rect 0 1 1 1 ∷ [])
+pub no_copy_unasked : answer_bytes (of_rows bgr233 (record { kind = Raw; copy = false; resizes = false; zrle = false })) red true (rect 0 0 1 1 ∷ rect 0 1 1 1 ∷ [])
     ≡ (0 ∷ 0 ∷ 0 ∷ 2 ∷ []) ++ raw_head 0 ++ (7 ∷ []) ++ raw_head 1 ++ 7 ∷ []
 no_copy_unasked = refl
 
@@ -80,7 +80,7 @@ format_makes_unknown = refl
 -- ---- in the encoding that was chosen
 
 abbrev chosen : Encoding → Choice
-chosen kind = record { kind = kind; copy = false; resizes = false }
+chosen kind = record { kind = kind; copy = false; resizes = false; zrle = false }
 
 abbrev red_pixel : List ℕ
 red_pixel = 0 ∷ 0 ∷ 255 ∷ 0 ∷ []
@@ -146,7 +146,7 @@ copied_below =
     (0 ∷ 0 ∷ 0 ∷ 2 ∷ []) ++ (0 ∷ 0 ∷ 0 ∷ 0 ∷ 0 ∷ 16 ∷ 0 ∷ 16 ∷ 0 ∷ 0 ∷ 0 ∷ 2 ∷ 0 ∷ 0 ∷ 0 ∷ 0 ∷ []) ++ red_pixel
     ++ 0 ∷ 0 ∷ 0 ∷ 16 ∷ 0 ∷ 16 ∷ 0 ∷ 16 ∷ 0 ∷ 0 ∷ 0 ∷ 1 ∷ 0 ∷ 0 ∷ 0 ∷ 0 ∷ []
 
-pub copied_before_rre : answer_bytes (of_rows host_format (record { kind = Rre; copy = true; resizes = false })) red true (rect 0 0 16 16 ∷ rect 0 16 16 16 ∷ []) ≡ copied_below
+pub copied_before_rre : answer_bytes (of_rows host_format (record { kind = Rre; copy = true; resizes = false; zrle = false })) red true (rect 0 0 16 16 ∷ rect 0 16 16 16 ∷ []) ≡ copied_below
 copied_before_rre = refl
 
 -- ---- what a follower holds

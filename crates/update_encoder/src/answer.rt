@@ -11,7 +11,7 @@ ghost use Rattle.update_encoder.specs.Answer.{answer_bytes};
 ghost use Rattle.update_encoder.specs.Coming.{AnswerStands, IsSameAnswer, WroteNext, coming, shown};
 ghost use Rattle.update_encoder.specs.Style.{style_in};
 
-use crate::rectangle::write;
+use crate::rectangle::write_rectangle;
 use crate::style::Style;
 use raster::Rect;
 use reflect_core::Cut;
@@ -104,7 +104,7 @@ impl Answer {
         let run = self.walk.next(cut)?;
         let before = self.before;
         self.before = Some(run.area);
-        Some(write(
+        Some(write_rectangle(
             &self.style,
             cut,
             self.may_copy,

@@ -27,13 +27,7 @@ fn same_colours(colours: &[u32], width: usize, height: usize, above: &Rect, area
 }
 
 /// Whether an area repeats another: it is as wide and as high, lies directly below, and shows the same colours.
-pub(crate) fn repeats(
-    colours: &[u32],
-    width: usize,
-    height: usize,
-    above: &Rect,
-    area: &Rect,
-) -> bool
+pub fn repeats(colours: &[u32], width: usize, height: usize, above: &Rect, area: &Rect) -> bool
     requires size { length colours.now ≡ width * height }
     requires small { (width ≤ 4096) × (height ≤ 4096) }
     requires above { IsWithin above.now width height }

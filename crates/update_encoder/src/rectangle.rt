@@ -253,7 +253,7 @@ fn write_repeated(
 /// Writes a rectangle of an answer, given the one before it, and answers how many bytes it has. Where CopyRect may be
 /// used and it repeats the one before, it is a CopyRect of that one. Otherwise it is in the chosen encoding where that
 /// saves bytes, and in Raw where not.
-pub(crate) fn write(
+pub fn write_rectangle(
     style: &Style,
     cut: &Cut,
     may_copy: bool,

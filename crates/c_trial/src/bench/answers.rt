@@ -173,6 +173,7 @@ pub extern "C" fn bench_answers(
             kind: Encoding::of_number(kind).unwrap_or(Encoding::Raw),
             copy: false,
             resizes: false,
+            zrle: false,
         },
     };
     refresh(&mut cut, &source, all);

@@ -7,7 +7,13 @@ use joined_runs::Runs;
 use reflect_core::PlainScreen;
 use roles::Role;
 use std::alloc::Global;
-use viewer_session::Session;
+use viewer_session::{AnswerForm, Session};
+
+/// The form in which viewers are answered.
+const JOINED: AnswerForm = AnswerForm {
+    runs: Runs::Joined,
+    zrle: false,
+};
 
 /// The most pieces that a session sends of an answer: its header, and one for each row of tiles.
 const MOST_PIECES: u32 = 257;
@@ -46,7 +52,7 @@ fn serve(
     requires high { (1 ≤ height) × (height ≤ 4096) }
 {
     let (wide, high) = (u64::from(width), u64::from(height));
-    let mut session = Session::ready(alloc, wide, high, Role::Full, Runs::Joined, None)?;
+    let mut session = Session::ready(alloc, wide, high, Role::Full, JOINED, None)?;
     session.feed(&messages(encoding, width, height))?;
     session.turn(screen)?;
     Ok(take_all(&mut session))

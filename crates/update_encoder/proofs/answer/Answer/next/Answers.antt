@@ -31,13 +31,13 @@ fits walk due run width k e =
     let across : run.area.x + run.area.w ≤ walk.width = k.part.inside.across in
     small_run run.area.w run.area.h width (omega (arith, across, e)) (low walk.area run.area walk.width run.first run.count k.area)
 
-pub write-requires-clause-values : goal.write-requires-clause-values
-write-requires-clause-values c =
+pub write_rectangle-requires-clause-values : goal.write_rectangle-requires-clause-values
+write_rectangle-requires-clause-values c =
     let stands : AnswerStands _ c.args.cut.now = subst (λ (a : Answering). AnswerStands a c.args.cut.now) (sym c.self.view_is) c.requires.stands in
     omega (arith, fits c.self.inside.walk (marked c.args.cut.now) c.in_ok-run.run' c.args.cut.now.width c.in_ok-run.ensures.run.0 stands.width, c.requires.values)
 
-pub write-requires-clause-room : goal.write-requires-clause-room
-write-requires-clause-room c =
+pub write_rectangle-requires-clause-room : goal.write_rectangle-requires-clause-room
+write_rectangle-requires-clause-room c =
     let stands : AnswerStands _ c.args.cut.now = subst (λ (a : Answering). AnswerStands a c.args.cut.now) (sym c.self.view_is) c.requires.stands in
     omega (arith, fits c.self.inside.walk (marked c.args.cut.now) c.in_ok-run.run' c.args.cut.now.width c.in_ok-run.ensures.run.0 stands.width, c.requires.room)
 
@@ -49,13 +49,13 @@ returns-clause-some c =
     let stands : AnswerStands _ cut = subst (λ (a : Answering). AnswerStands a cut) (sym c.self.view_is) c.requires.stands in
     let now : Answering = record { walk = c.next.new.self; style = style_in inside.style; may_copy = inside.may_copy; before = Some run.area; count = inside.count } in
     let small = fits inside.walk (marked cut) run cut.width c.in_ok-run.ensures.run.0 stands.width in (
-      omega (arith, c.write.ensures.some),
-      omega (arith, c.write.ensures.room, small),
-      subst (λ (a : Answering). WroteNext a now cut (take c.write.result c.write.new.out)) c.self.view_is
+      omega (arith, c.write_rectangle.ensures.some),
+      omega (arith, c.write_rectangle.ensures.room, small),
+      subst (λ (a : Answering). WroteNext a now cut (take c.write_rectangle.result c.write_rectangle.new.out)) c.self.view_is
           (record {
             rectangle = run.area;
             is_first = c.in_ok-run.ensures.left;
-            bytes_are = c.write.ensures.written.front;
-            others = first_then (style_in inside.style) (shown cut) inside.may_copy inside.before (runs_left inside.walk (marked cut)) (runs_left c.next.new.self (marked cut)) run.area (take c.write.result c.write.new.out) c.in_ok-run.ensures.left c.write.ensures.written.front;
+            bytes_are = c.write_rectangle.ensures.written.front;
+            others = first_then (style_in inside.style) (shown cut) inside.may_copy inside.before (runs_left inside.walk (marked cut)) (runs_left c.next.new.self (marked cut)) run.area (take c.write_rectangle.result c.write_rectangle.new.out) c.in_ok-run.ensures.left c.write_rectangle.ensures.written.front;
           }),
     )
