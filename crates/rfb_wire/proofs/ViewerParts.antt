@@ -68,9 +68,9 @@ numbers_noted left found new xs e notes =
 
 -- The first number of a list follows its count.
 pub count_goes_on : (count : ℕ) (fields : Part × List ℕ) (xs : List ℕ) → length xs ≡ 3 → 0 < count → count ≡ from_be_bytes w16 (slice_index xs 1 ∷ slice_index xs 2 ∷ [])
-    → fields ≡ (part.Number (count - 1) (record { kind = None; copy = false; resizes = false }), []) → after (form_of fields.0) fields.1 ≡ after set_encodings xs
+    → fields ≡ (part.Number (count - 1) (record { kind = None; copy = false; resizes = false; zrle = false }), []) → after (form_of fields.0) fields.1 ≡ after set_encodings xs
 count_goes_on count fields xs e some same is =
-    let found : Found = record { kind = None; copy = false; resizes = false } in
+    let found : Found = record { kind = None; copy = false; resizes = false; zrle = false } in
     let grown : suc (count - 1) ≡ count = omega arith in
     ap (λ (f : Part × List ℕ). after (form_of f.0) f.1) is ∙ (ap (λ n. numbers n found) (grown ∙ same) ∙ sym (part_full part.Count xs e))
 

@@ -1,5 +1,5 @@
 -- How reading a viewer's message goes on, by what its reader holds.
-use Rattle.std.specs.Prelude.{◌≡◌, ℕ, suc, Bool, true, false, ◌<◌, ◌≤◌, ◌==◌, ◌||◌, ◌⊎◌, unwrap_or, Some, List, ◌++◌, length, take}
+use Rattle.std.specs.Prelude.{◌≡◌, ℕ, suc, Bool, true, false, ◌<◌, ◌≤◌, ◌==◌, ◌||◌, ◌&&◌, ◌⊎◌, is_none, unwrap_or, Some, List, ◌++◌, length, take}
 use Rattle.std.specs.List.{list_any}
 use Rattle.fault.specs.declared.kinds.Fault.TheVariants.{UnknownMessage}
 use Rattle.byte_reading.specs.Reading.{Reading, Done, Faulty, ◌>>=◌, step, after, taken, fault_of, bytes, padding, u32, times}
@@ -22,6 +22,7 @@ choice_with found es =
       kind = unwrap_or found.kind (kind_of es);
       copy = found.copy || list_any (λ e. e == 1) es;
       resizes = found.resizes || list_any (λ e. e == client.desktop_size) es;
+      zrle = found.zrle || (is_none found.kind && client.is_zrle_first es);
     }
 
 -- The rest of SetEncodings, of which this many numbers are left.

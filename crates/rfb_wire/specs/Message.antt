@@ -9,7 +9,7 @@ use Rattle.rfb_wire.specs.ClientMessage.{ClientMessage, SetPixelFormat, SetEncod
 
 -- The choice of the definitions for which a choice in the code stands.
 abbrev pub choice_in : declared_choice.Choice → Choice
-choice_in c = record { kind = c.kind; copy = c.copy; resizes = c.resizes }
+choice_in c = record { kind = c.kind; copy = c.copy; resizes = c.resizes; zrle = c.zrle }
 
 -- The message of the definitions for which a message in the code stands.
 abbrev pub message_of : declared.ClientMessage → ClientMessage

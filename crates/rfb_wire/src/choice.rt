@@ -11,4 +11,6 @@ pub struct Choice {
     pub copy: bool,
     /// Whether DesktopSize is in its list, so that it takes a new size of the screen (RFC 6143, 7.8.2).
     pub resizes: bool,
+    /// Whether ZRLE comes before Raw, RRE and Hextile in its list (RFC 6143, 7.7.6).
+    pub zrle: bool,
 }

@@ -12,7 +12,7 @@ use std::process::Abort;
 enum Says {
     Format([u8; 16]),
     /// How pixels are wanted, and whether CopyRect is among the encodings, and DesktopSize.
-    Encodings(Encoding, bool, bool),
+    Encodings(Encoding, bool, bool, bool),
     /// Whether only what has changed is asked for, and where.
     Ask(bool, Rect),
     /// Whether the key is pressed, and which it is.
@@ -29,7 +29,7 @@ enum Says {
 const FORMAT: [u8; 16] = [16, 16, 1, 1, 0, 31, 0, 63, 0, 31, 11, 5, 0, 0, 0, 0];
 
 /// Messages, and what they say.
-const MESSAGES: [(&[u8], Says); 10] = [
+const MESSAGES: [(&[u8], Says); 11] = [
     (
         &[
             0, 0, 0, 0, 16, 16, 1, 1, 0, 31, 0, 63, 0, 31, 11, 5, 0, 0, 0, 0,
@@ -41,18 +41,26 @@ const MESSAGES: [(&[u8], Says); 10] = [
         &[
             2, 0, 0, 5, 0, 0, 0, 1, 255, 255, 255, 0, 0, 0, 0, 5, 0, 0, 0, 0, 0, 0, 0, 2,
         ],
-        Says::Encodings(Encoding::Hextile, true, false),
+        Says::Encodings(Encoding::Hextile, true, false, false),
     ),
     (
         &[2, 0, 0, 2, 0, 0, 0, 1, 255, 255, 255, 0],
-        Says::Encodings(Encoding::Raw, true, false),
+        Says::Encodings(Encoding::Raw, true, false, false),
+    ),
+    // ZRLE, Hextile, CopyRect
+    (
+        &[2, 0, 0, 3, 0, 0, 0, 16, 0, 0, 0, 5, 0, 0, 0, 1],
+        Says::Encodings(Encoding::Hextile, true, false, true),
     ),
     // ExtendedDesktopSize (-308), DesktopSize (-223)
     (
         &[2, 0, 0, 2, 255, 255, 254, 204, 255, 255, 255, 33],
-        Says::Encodings(Encoding::Raw, false, true),
+        Says::Encodings(Encoding::Raw, false, true, false),
     ),
-    (&[2, 0, 0, 0], Says::Encodings(Encoding::Raw, false, false)),
+    (
+        &[2, 0, 0, 0],
+        Says::Encodings(Encoding::Raw, false, false, false),
+    ),
     (&[3, 255, 1, 2, 0, 3, 16, 0, 0, 1], Says::Ask(true, AREA)),
     (&[4, 1, 9, 9, 0, 0, 255, 13], Says::Key(true, 0xFF0D)),
     (&[5, 4, 1, 0, 0, 7], Says::Pointer(4, 256, 7)),
@@ -84,8 +92,11 @@ fn is_long_text(bytes: &[u8], count: usize) -> bool {
 fn is_said(message: &ClientMessage, says: &Says) -> bool {
     match (message, says) {
         (ClientMessage::Format(format), Says::Format(bytes)) => is_format(format, bytes),
-        (ClientMessage::Encodings(choice), Says::Encodings(wanted, copied, sized)) => {
-            choice.kind == *wanted && choice.copy == *copied && choice.resizes == *sized
+        (ClientMessage::Encodings(choice), Says::Encodings(wanted, copied, sized, compressed)) => {
+            choice.kind == *wanted
+                && choice.copy == *copied
+                && choice.resizes == *sized
+                && choice.zrle == *compressed
         }
         (ClientMessage::Ask { incremental, rect }, Says::Ask(changes, area)) => {
             incremental == changes && rect == area
@@ -203,7 +214,7 @@ const LONGEST_LIST: [Step; 6] = [
     Step::Uses(&[0, 0, 0, 2], 4),
     Step::GivesNothing,
     Step::Uses(&[0, 0, 0, 0, 99], 4),
-    Step::Gives(Says::Encodings(Encoding::Rre, false, false)),
+    Step::Gives(Says::Encodings(Encoding::Rre, false, false, false)),
 ];
 
 const LONGEST_TEXT_THAT_IS_KEPT: [Step; 3] = [

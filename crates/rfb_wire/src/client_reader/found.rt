@@ -8,13 +8,17 @@ use crate::choice::Choice;
 use crate::head::DESKTOP_SIZE;
 use raster::{COPY_RECT, Encoding};
 
+/// The number of ZRLE (RFC 6143, 7.7.6).
+const ZRLE: u32 = 16;
+
 /// What the numbers so far say (RFC 6143, 7.5.2 and 7.7): the first encoding of pixels that the reflector writes, and
-/// whether CopyRect and DesktopSize are among them. The list itself is not kept.
+/// whether CopyRect and DesktopSize are among them, and whether ZRLE comes before it. The list itself is not kept.
 #[derive(Clone, Copy)]
 pub(crate) struct Found {
     kind: Option<Encoding>,
     copy: bool,
     resizes: bool,
+    zrle: bool,
 }
 
 impl Found {
@@ -23,6 +27,7 @@ impl Found {
         kind: None,
         copy: false,
         resizes: false,
+        zrle: false,
     };
 
     /// What is found with one more number. Only the first encoding of pixels counts.
@@ -34,6 +39,7 @@ impl Found {
             kind: self.kind.or(kind),
             copy: self.copy || number == COPY_RECT,
             resizes: self.resizes || number == DESKTOP_SIZE,
+            zrle: self.zrle || (self.kind.is_none() && number == ZRLE),
         }
     }
 
@@ -45,6 +51,7 @@ impl Found {
             kind: self.kind.unwrap_or(Encoding::Raw),
             copy: self.copy,
             resizes: self.resizes,
+            zrle: self.zrle,
         }
     }
 }
