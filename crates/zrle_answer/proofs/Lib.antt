@@ -12,3 +12,7 @@ pub mod LookAlike
 pub mod OneStream
 pub mod Example
 pub mod OnTheScreen
+pub mod Planning
+pub mod Behind
+pub mod Whole
+pub mod Cuts

@@ -5,3 +5,4 @@ pub mod Follower
 pub mod Followed
 pub mod Example
 pub mod Written
+pub mod Planned

@@ -2,6 +2,7 @@
 
 ghost use Rattle.zrle_answer.specs.Followed.{UpdatesEndAtOnePlace, FollowingIsOneThing, FollowingAllIsOneThing, FollowingLeadsSomewhere, PaintsLieOnTheScreen, AnswersAreFollowed, AreasAreHeld, AnswersShowWhatLooksAlike, OtherAnswersAreAnswers, ZrleIsUsedByLeaveAlone, OtherMessagesAreFollowedAlike, SessionsAreFollowed, FollowingGoesOn, DataAreOneStream};
 ghost use Rattle.zrle_answer.specs.Example.{ExampleIsFollowed};
+ghost use Rattle.zrle_answer.specs.Written.{CutsAreAnswered};
 
 use zrle_codec::{data_bring_one_thing, parts_are_read};
 
@@ -54,6 +55,11 @@ pub fn areas_are_held()
 /// An answer of one screen, as of a cut, is one of each other that looks the same in its rectangles.
 pub fn answers_show_what_looks_alike()
     ensures { AnswersShowWhatLooksAlike }
+{}
+
+/// An answer that is written of a cut is one of the screen that was cut, in the tiles that were due there.
+pub fn cuts_are_answered()
+    ensures { CutsAreAnswered }
 {}
 
 /// An answer without ZRLE is an answer.

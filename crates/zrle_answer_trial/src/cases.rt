@@ -7,10 +7,10 @@ use zrle_answer::RectangleWriter;
 use zrle_codec::Cpixels;
 
 /// The most pixels across a screen, and down one.
-const SCREEN_SIDE: usize = 4096;
+pub(crate) const SCREEN_SIDE: usize = 4096;
 
 /// The rectangle `X Y W H`, and what stands behind it.
-fn rect_of(line: &str) -> Result<(Rect, &str), Fail> {
+pub(crate) fn rect_of(line: &str) -> Result<(Rect, &str), Fail> {
     let (x, rest) = parted(line);
     let (y, rest) = parted(rest);
     let (w, rest) = parted(rest);

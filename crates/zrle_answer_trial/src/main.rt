@@ -1,17 +1,20 @@
-//! Writes rectangles in ZRLE, one per line, as one connection has them. `README.md` says what the lines are.
+//! Writes rectangles in ZRLE and whole answers, one per line, as one connection has them. `README.md` says what the lines are.
 #![tactic(auto)]
 
 mod cases;
+mod screens;
 mod words;
 
 use cases::print_rectangle;
+use screens::print_answer;
 use std::test::Fail;
 use words::parted;
-use zrle_answer::RectangleWriter;
+use zrle_answer::{AnswerWriter, RectangleWriter};
 
 fn main(rt: HostRuntime) -> Result<(), Fail> {
     let alloc = rt.alloc();
     let mut writer = RectangleWriter::new(alloc)?;
+    let mut answers = AnswerWriter::new(alloc)?;
     let mut begun = false;
     for line in rt.lines(alloc) {
         let line = line?;
@@ -21,6 +24,7 @@ fn main(rt: HostRuntime) -> Result<(), Fail> {
                 print_rectangle(&rt, &mut writer, begun, rest)?;
                 begun = true;
             }
+            "answer" => begun = print_answer(&rt, &mut answers, begun, rest)?,
             "" | "#" => {}
             _ => return Err(Fail::new("no such line")),
         }
