@@ -1,0 +1,7 @@
+pub mod Alike
+pub mod Anewing
+pub mod Feeding
+pub mod Pieces
+pub mod Rebuilt
+pub mod Sought
+pub mod Steps

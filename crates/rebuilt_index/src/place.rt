@@ -1,0 +1,31 @@
+//! Where the blocks of a recording begin.
+
+ghost use Rattle.std.specs.Prelude.{◌≡◌, ◌+◌, length, IfOk};
+ghost use Rattle.recording.specs.Recording.{padding_len};
+
+use fault::{Fault, LIMIT};
+use recording::Block;
+
+/// How many bytes of a block aren't its data or its padding: its length, and its time.
+const FRAME_LEN: u64 = 8;
+
+/// Fails where a count has no room for so many bytes (`NumbersOut`).
+pub(crate) fn check_count(count: usize) -> Result<(), Fault> {
+    if count as u64 > LIMIT {
+        return Err(Fault::NumbersOut);
+    }
+    Ok(())
+}
+
+/// The place behind a block that begins at this place, in bytes from the beginning of the recording. It fails where a
+/// count has no room for it (`NumbersOut`).
+pub(crate) fn behind(place: u64, block: Block<'_>) -> Result<u64, Fault>
+    ensures { IfOk result (λ next. next ≡ place + (length block.entry.said.now
+        + padding_len (length block.entry.said.now) + 8)) }
+{
+    let len = block.said.len() as u64;
+    if place > LIMIT || len > LIMIT {
+        return Err(Fault::NumbersOut);
+    }
+    Ok(place + (len + (4 - len % 4) % 4 + FRAME_LEN))
+}

@@ -1,0 +1,192 @@
+//! Seeks the key moments of a session, block after block.
+
+ghost use Rattle.std.specs.Prelude.{◌≡◌, ℕ, List, [], ◌∷◌, ◌++◌, true, IfOk, IfSome, OnOk};
+ghost use Rattle.recording.specs.Recording.{Block};
+ghost use Rattle.recording_index.specs.KeyMoments.{moment_before};
+ghost use Rattle.rebuilt_index.specs.Anew.{AreKeyMoments, IsKey};
+ghost use Rattle.rebuilt_index.specs.Following.{Shows};
+ghost use Rattle.rebuilt_index.specs.Seeking.{IsOpened, Seeks};
+
+use crate::bad::BadRebuild;
+use crate::follower::Follower;
+use fault::Fault;
+use recording_index::KeyMoment;
+use rfb_wire::Joined;
+use std::alloc::Global;
+
+/// How many milliseconds lie between two key moments, at least.
+const LEAST_APART: u32 = 1_000;
+
+/// One who follows from a block on that may be a key moment.
+#[derive(Drop)]
+pub(crate) struct Trial {
+    pub(crate) moment: KeyMoment,
+    pub(crate) follower: Follower,
+}
+
+/// Whether both show the same.
+fn look_alike(one: &Follower, other: &Follower) -> bool
+    ensures { result ≡ true → Shows one.now.painter other.now.painter }
+{
+    let (width, height) = one.painter.size();
+    if other.painter.size() != (width, height) {
+        return false;
+    }
+    for y in 0..height {
+        if one.painter.row(y) != other.painter.row(y) {
+            return false;
+        }
+    }
+    true
+}
+
+/// The block that was looked at, unless an update has come whole that doesn't show the same.
+fn still_tried(trial: Trial) -> Option<Trial>
+    ensures { IfSome result (λ left. left ≡ trial) }
+{
+    if trial.follower.is_between && trial.follower.is_painted {
+        return None;
+    }
+    Some(trial)
+}
+
+/// One who follows a session from its beginning on, and has found key moments of it.
+#[derive(Drop)]
+pub(crate) struct Seeker {
+    alloc: Global,
+    main: Follower,
+    /// The block that may be a key moment, if one is looked at.
+    trial: Option<Trial>,
+    moments: Vec<KeyMoment>,
+    /// The last of them, or the beginning of the recording.
+    last: KeyMoment,
+}
+
+/// How many bytes of an update tell where its first rectangle begins, and how wide it is (RFC 6143, 7.6.1).
+const WIDTH_END: usize = 10;
+
+/// Whether an update that begins so may bring all of the screen: it begins at the top left, and is as wide as the
+/// screen. A Bell and a text may come before one (7.6.3, 7.6.4). No clause rests on it: it saves time.
+fn may_be_whole(width: u64, said: &[u8]) -> bool {
+    if said.len() < WIDTH_END {
+        return true;
+    }
+    let corner = [said[4], said[5], said[6], said[7]];
+    let first = u64::from(said[8]) * 256 + u64::from(said[9]);
+    said[0] != 0 || (corner == [0; 4] && first == width)
+}
+
+impl Seeker {
+    /// One who has seen nothing of a session but its handshake. It fails where memory is refused (`Memory`).
+    pub(crate) fn new(alloc: Global, joined: &Joined) -> Result<Seeker, Fault>
+        ensures { (blocks : List Block) (hello rest : List ℕ) → IsOpened blocks hello joined.now rest
+            → IfOk result (λ seeker. Seeks rest seeker blocks) }
+    {
+        let main = Follower::new(alloc, joined.w, joined.h)?;
+        Ok(Seeker {
+            alloc,
+            main,
+            trial: None,
+            moments: Vec::new(alloc),
+            last: KeyMoment { time: 0, place: 0 },
+        })
+    }
+
+    /// Whether a key moment at this time is far enough from the last one.
+    fn is_due(&self, time: u32) -> bool {
+        self.last.place == 0 || time.saturating_sub(self.last.time) >= LEAST_APART
+    }
+
+    /// Begins to look at the block that comes next, where it may be a key moment.
+    fn begin(&mut self, moment: KeyMoment, said: &[u8]) -> Result<(), Fault>
+        ensures { (blocks : List Block) (block : Block) → Seeks [] self.old blocks
+            → moment ≡ moment_before blocks block → block.said ≡ said.now
+            → OnOk result (Seeks said.now self.new (blocks ++ block ∷ [])) }
+    {
+        let (width, height) = self.main.decoder.size();
+        let may_begin = self.trial.is_none() && self.main.is_between && self.is_due(moment.time);
+        if !may_begin || !may_be_whole(width, said) {
+            return Ok(());
+        }
+        let follower = Follower::new(self.alloc, width, height)?;
+        self.trial = Some(Trial { moment, follower });
+        Ok(())
+    }
+
+    /// Follows what is said in the block.
+    pub(crate) fn follow(&mut self, said: &[u8]) -> Result<(), Fault>
+        ensures { (blocks : List Block) → Seeks said.now self.old blocks → OnOk result (Seeks [] self.new blocks) }
+    {
+        self.main.feed(said)?;
+        let Some(mut trial) = self.trial.take() else {
+            return Ok(());
+        };
+        trial.follower.feed(said)?;
+        self.trial = Some(trial);
+        Ok(())
+    }
+
+    /// Whether both who follow stand between two messages, and show the same.
+    fn is_key(&self, trial: &Trial) -> bool
+        ensures main { result ≡ true → self.now.main.is_between ≡ true }
+        ensures trial { result ≡ true → trial.now.follower.is_between ≡ true }
+        ensures same { result ≡ true
+            → Shows trial.now.follower.painter self.now.main.painter }
+    {
+        let are_between = self.main.is_between && trial.follower.is_between;
+        are_between && look_alike(&trial.follower, &self.main)
+    }
+
+    /// Notes a key moment, unless it is before the last one.
+    fn note(&mut self, moment: KeyMoment) -> Result<(), BadRebuild>
+        ensures { (blocks : List Block) → Seeks [] self.old blocks → IsKey blocks moment
+            → OnOk result (Seeks [] self.new blocks) }
+    {
+        if moment.time < self.last.time || moment.place < self.last.place {
+            return Ok(());
+        }
+        self.moments.push(moment)?;
+        self.last = moment;
+        Ok(())
+    }
+
+    /// Takes the block that was looked at for a key moment where all that it began shows the same; or leaves it alone
+    /// where an update has come that doesn't.
+    fn judge(&mut self) -> Result<(), BadRebuild>
+        ensures { (blocks : List Block) → Seeks [] self.old blocks → OnOk result (Seeks [] self.new blocks) }
+    {
+        let Some(trial) = self.trial.take() else {
+            return Ok(());
+        };
+        if self.is_key(&trial) {
+            return self.note(trial.moment);
+        }
+        self.trial = still_tried(trial);
+        Ok(())
+    }
+
+    /// Sees the next block of the recording.
+    pub(crate) fn see(&mut self, moment: KeyMoment, said: &[u8]) -> Result<(), BadRebuild>
+        ensures { (blocks : List Block) (block : Block) → Seeks [] self.old blocks
+            → moment ≡ moment_before blocks block → block.said ≡ said.now
+            → OnOk result (Seeks [] self.new (blocks ++ block ∷ [])) }
+    {
+        self.begin(moment, said)?;
+        self.follow(said)?;
+        self.judge()
+    }
+
+    /// The key moments that were found.
+    pub(crate) fn into_moments(self) -> Vec<KeyMoment>
+        ensures { (blocks : List Block) → Seeks [] self blocks → AreKeyMoments result.items blocks }
+    {
+        let Seeker {
+            alloc: _,
+            main: _,
+            trial: _,
+            moments,
+            last: _,
+        } = self;
+        moments
+    }
+}
