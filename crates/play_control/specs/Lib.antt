@@ -1,0 +1,4 @@
+pub mod Times
+pub mod Speeds
+pub mod Request
+pub mod Courses
