@@ -20,7 +20,13 @@ use std::alloc::Global;
 use std::sync::Wait;
 use std::test::Fail;
 use viewer_server::{Beginning, NoProgress, Visit, run_viewer};
-use viewer_session::Session;
+use viewer_session::{AnswerForm, Session};
+
+/// The form in which viewers are answered.
+const FORM: AnswerForm = AnswerForm {
+    runs: Runs::Joined,
+    zrle: false,
+};
 
 /// The width of the picture in pixels.
 const WIDTH: u64 = 8;
@@ -91,7 +97,7 @@ fn serve_viewer<R: Wait>(
     let takes = vec![in alloc; Took::Bytes(VIEWER.len()), Took::End]?;
     let gives = Vec::from_elem(alloc, Gave::Bytes(ROOM), PIECES)?;
     let link = MemoryLink::new(alloc, sends, takes, gives)?;
-    let session = Session::ready(alloc, WIDTH, HEIGHT, Role::View, Runs::Joined, None)?;
+    let session = Session::ready(alloc, WIDTH, HEIGHT, Role::View, FORM, None)?;
     let first = Beginning::of(&link, &screen, &NoInput, &session);
     let mut visit = Visit::new(&first, link, screen, NoInput, session);
     let ended = run_viewer(rt, &mut visit, &NoStop, &NoRest, &NoProgress);

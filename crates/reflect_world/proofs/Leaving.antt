@@ -91,6 +91,7 @@ parted_reaches standing v found place gone relay within at e queue taken s w r =
     reached_for s standing _ w v place _ r (there_is standing v found place r.room within at e)
     (λ p k. record {
       size = r.size;
+      plain = r.plain;
       width = r.width;
       height = r.height;
       in_order = r.in_order;

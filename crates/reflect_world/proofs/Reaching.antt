@@ -20,7 +20,7 @@ use Rattle.viewer_session.specs.Viewer.{Setup, Viewer, may_look, after_cut, afte
 use Rattle.viewer_session.specs.Session.{State, Stands, StandsBut, HasCounted, at_rest, after_look, with_marks, without_look, after_writing, is_ready}
 use Rattle.reflect_core.specs.Sequential as history
 use Rattle.reflect_world.specs.Host.{HasReadTo, HostSide, HostStands, IsReadOut, IsSameHost, ReadsOn, BeginsNext, form_of, host_form, with_past}
-use Rattle.reflect_world.specs.Schedule.{Next, next_update, fault_now, next_begins, next_host, set_viewer, with_act, Act, ByViewer, World, Step, HostBytes, Put, Join, Bytes, Look, Cut, Written, beginning, happens, play, play_from, put_next, for_viewer, cut_at, Relayed, send_waiting, Send, Take, take_first}
+use Rattle.reflect_world.specs.Schedule.{Next, next_update, fault_now, next_host, set_viewer, with_act, Act, ByViewer, World, Step, HostBytes, Put, Join, Bytes, Look, Cut, Written, beginning, happens, play, play_from, put_next, for_viewer, cut_at, Relayed, send_waiting, Send, Take, take_first}
 use Rattle.reflect_world.specs.World.{Held, Standing, PlaceBy, PlaceShows, PlaceStands, Reached, Shows, Leaves, StaysFor, StaysSeen, IsBrokenOff, ShowsUnder, place_at, IsFed, HasLooked, IsWritten, GoesOn, IsPut, JoinsUnder, TakesStep, HasSent, with_session}
 use Rattle.reflect_world.specs.Relay.{RelaySide, TakesFirst, takes_from}
 use Rattle.painter.specs.Patch.{SizedUpdate}
@@ -28,7 +28,7 @@ use Rattle.painter.specs.Same.{AreSameFrom}
 use Rattle.reflect_core.specs.Sequential.{Begins}
 use Rattle.reflect_world.proofs.HostReading.{no_next}
 use Rattle.reflect_world.proofs.Hosts.{IsNext, next_of}
-use Rattle.reflect_world.proofs.HostUpdates.{ended-more, next_all, order_bytes, order_next, order_put}
+use Rattle.reflect_world.proofs.HostUpdates.{ended-more, order_bytes, order_next, order_put}
 use Rattle.reflect_world.proofs.SameUpdates.{cut_same}
 use Rattle.viewer_session.proofs.SessionLaws.{fault_stands}
 use Rattle.reflect_world.proofs.Places.{counted_in, place_changed, place_more, place_seen, places_set, place_is_some, place_fed, place_looked, place_written, place_stays, place_cut, place_sent, stands_without_look}
@@ -59,6 +59,7 @@ pub bytes_reaches : (standing : Standing) (host : HostSide) (bytes : List ℕ) �
 bytes_reaches standing host bytes same grows s w r =
     record {
       size = r.size;
+      plain = r.plain;
       width = r.width;
       height = r.height;
       in_order = order_bytes s w bytes r.in_order;
@@ -119,6 +120,7 @@ reached_put s standing w host screen v r same none reads width height updates ta
     subst (λ o. Reached s (record standing { host = host; screen = screen }) (put_next s w o)) (sym there)
     (record {
       size = r.size;
+      plain = r.plain;
       width = width ∙ r.width;
       height = height ∙ r.height;
       in_order = order_put s w (Some u) there r.in_order;
@@ -144,6 +146,7 @@ reached_no_put s standing w host fault r same stands out =
     subst (λ o. Reached s (record standing { host = host; host_fault = fault }) (put_next s w o)) (sym there)
     (record {
       size = r.size;
+      plain = r.plain;
       width = r.width;
       height = r.height;
       in_order = r.in_order;
@@ -175,6 +178,7 @@ reached_set : (s : Setup) (standing : Standing) (w : World) (acts : List Act) (s
 reached_set s standing w acts stays v place p r within good =
     record {
       size = r.size;
+      plain = r.plain;
       width = r.width;
       height = r.height;
       in_order = r.in_order;
@@ -254,6 +258,7 @@ reached_no_look s standing w v place r there none =
     subst (λ o. Reached s standing (cut_at s w v p o)) (sym none ∙ k.looked)
     (record {
       size = r.size;
+      plain = r.plain;
       width = r.width;
       height = r.height;
       in_order = r.in_order;
@@ -342,7 +347,7 @@ goes_on_reaches standing v place new None s w r within there at k =
     (same_placed s standing (happens s w (Cut v)) v place (reached_no_look s standing w v place r there at) within there)
 goes_on_reaches standing v place new (Some looked) s w r within there at k =
     subst (λ h. Reached s (with_place standing v h) (happens s w (Cut v))) (sym k.others)
-    (reached_cut s standing w v looked place new.session r within there at (k.stays s) (k.cuts s) k.counted)
+    (reached_cut s standing w v looked place new.session r within there at (k.stays s) (λ q. k.cuts s q r.plain) k.counted)
 
 pub cut_reaches : (standing : Standing) (v : ℕ) (found : Option Held) (place new : Held) → v < 65 → found ≡ slice_index_or standing.places v found → found ≡ Some place → GoesOn place.looked place new standing.screen.updates
     → TakesStep (Cut v) standing (with_place standing v new)
@@ -356,11 +361,11 @@ held_is new looked written unread =
     ap with_looked looked ∙ (ap with_written written ∙ ap with_unread unread)
 
 pub joined_reaches : (standing : Standing) (v : ℕ) (name : List ℕ) (runs : Runs) (role : Role) (greet : Bool) (new : Held) → v < 65 → new.looked ≡ None → new.written ≡ [] → new.unread ≡ [] → new.session.asked.last ≡ None
-    → ((s : Setup) → s.w ≡ standing.screen.width → s.h ≡ standing.screen.height → s.name ≡ name → s.runs ≡ runs → s.host ≡ None → Stands s new.session (new_viewer role greet))
+    → ((s : Setup) → s.w ≡ standing.screen.width → s.h ≡ standing.screen.height → s.name ≡ name → s.runs ≡ runs → s.host ≡ None → s.zrle ≡ false → Stands s new.session (new_viewer role greet))
     → JoinsUnder name runs (Join v role greet) standing (with_place standing v new)
-joined_reaches standing v name runs role greet new within looked written unread uncut stands s w named formed untold r =
+joined_reaches standing v name runs role greet new within looked written unread uncut stands s w named formed untold plain r =
     subst (λ h. Reached s (with_place standing v h) (happens s w (Join v role greet))) (sym (held_is new looked written unread))
-    (reached_join s standing w v role greet new.session r within (stands s (sym r.width) (sym r.height) named formed untold) uncut)
+    (reached_join s standing w v role greet new.session r within (stands s (sym r.width) (sym r.height) named formed untold plain) uncut)
 
 -- What a cut asks for.
 pub ready_there : (s : Setup) (standing : Standing) (w : World) (v : ℕ) (found : Option Held) (place : Held) → Reached s standing w → v < 65 → found ≡ slice_index_or standing.places v found → found ≡ Some place
@@ -404,6 +409,7 @@ pub host_stays : (s : Setup) (standing : Standing) (w : World) (host : HostSide)
 host_stays s standing w host r same stands =
     record {
       size = r.size;
+      plain = r.plain;
       width = r.width;
       height = r.height;
       in_order = r.in_order;
@@ -461,6 +467,7 @@ next_reaches standing mid host same reads switched begins s w r =
     (subst (λ o. Reached s (with_host standing host) (next_host w None o)) (sym at)
     (record {
       size = r.size;
+      plain = r.plain;
       width = r.width;
       height = r.height;
       in_order = order_next s w r.in_order;
@@ -519,10 +526,10 @@ broken_off standing v found place new within at e broken s w r =
 
 -- A viewer joins, also where memory was refused before.
 pub joined_shows : (standing : Standing) (v : ℕ) (name : List ℕ) (runs : Runs) (role : Role) (greet : Bool) (new : Held) → v < 65 → new.written ≡ []
-    → ((s : Setup) → s.w ≡ standing.screen.width → s.h ≡ standing.screen.height → s.name ≡ name → s.runs ≡ runs → s.host ≡ None → Stands s new.session (new_viewer role greet))
+    → ((s : Setup) → s.w ≡ standing.screen.width → s.h ≡ standing.screen.height → s.name ≡ name → s.runs ≡ runs → s.host ≡ None → s.zrle ≡ false → Stands s new.session (new_viewer role greet))
     → ShowsUnder name runs (Join v role greet) standing (with_place standing v new)
-joined_shows standing v name runs role greet new within written stands s w named formed untold shown =
-    let stood : Stands s new.session (new_viewer role greet) = stands s (sym shown.width) (sym shown.height) named formed untold in
+joined_shows standing v name runs role greet new within written stands s w named formed untold plain shown =
+    let stood : Stands s new.session (new_viewer role greet) = stands s (sym shown.width) (sym shown.height) named formed untold plain in
     record {
       size = shown.size;
       width = shown.width;
@@ -544,6 +551,7 @@ reached_queued s standing w relay more v place p r within good queue taken =
     let set = reached_set s standing w w.acts w.stays v place p r within good in
     record {
       size = set.size;
+      plain = set.plain;
       width = set.width;
       height = set.height;
       in_order = set.in_order;
@@ -623,6 +631,7 @@ take_reached : (s : Setup) (standing : Standing) (w : World) (relay : RelaySide)
 take_reached s standing w relay [] e took r =
     record {
       size = r.size;
+      plain = r.plain;
       width = r.width;
       height = r.height;
       in_order = r.in_order;
@@ -641,6 +650,7 @@ take_reached s standing w relay [] e took r =
 take_reached s standing w relay (first ∷ left) e took r =
     record {
       size = r.size;
+      plain = r.plain;
       width = r.width;
       height = r.height;
       in_order = r.in_order;

@@ -7,7 +7,7 @@ use Rattle.std.proofs.lemmas.List.{drop-map, take-map}
 use Rattle.raster.specs.declared.rect.Rect.{Rect}
 use Rattle.raster.specs.declared.size.Size.{Size}
 use Rattle.raster.specs.Screen.{IsWithin, common, meets, opening, tile_count, tile_rect, whole_screen}
-use Rattle.raster.specs.Update.{Update, bells, last_size, screen}
+use Rattle.raster.specs.Update.{Update, bells, screen}
 use Rattle.joined_runs.specs.declared.runs.Runs.{Runs}
 use Rattle.rfb_wire.specs.Writing.{bell_bytes, update_bytes}
 use Rattle.tiles.specs.Touched.{bell_or_text, is_due_since, last_sent, runs, touches}
@@ -18,7 +18,7 @@ use Rattle.reflect_core.specs.Asked.{pending}
 use Rattle.update_encoder.specs.Answer.{answer_bytes}
 use Rattle.update_encoder.proofs.CutLaws.{all_same, each_same}
 use Rattle.viewer_session.specs.Record.{Entry, MadeCut, choice_of, events}
-use Rattle.viewer_session.specs.Turn.{all_were_sent, asked_part, bell_at, clipped_to, due_tile, due_tile_in, news_since, newer_text, record_after_cut, sent_at, size_at, size_for, size_or_update, style_of, text_at, told_at, told_of, update_at, update_for, was_sent}
+use Rattle.viewer_session.specs.Turn.{all_were_sent, bell_at, clipped_to, due_tile, due_tile_in, news_since, newer_text, record_after_cut, sent_at, size_at, size_for, size_or_update, style_of, text_at, told_at, told_of, update_at, update_for, was_sent}
 use Rattle.viewer_session.specs.Viewer.{Setup, Viewer, after_cut}
 use Rattle.viewer_session.proofs.SameRuns as same_runs
 use Rattle.viewer_session.proofs.Stands.{clipped_on, pending_within}

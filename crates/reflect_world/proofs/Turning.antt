@@ -1,15 +1,16 @@
 -- The second half of a turn over a source for one thread. A World's Cut step is this half.
-use Rattle.std.proofs.Common.{◌≡◌, ℕ, Bool, true, false, List, length, Option, refl, ap, sym, ◌∙◌, subst}
+use Rattle.std.proofs.Common.{◌≡◌, ℕ, Bool, true, false, List, length, take, Option, Some, None, refl, ap, sym, ◌∙◌, subst}
 use Rattle.std.specs.Prelude.{◌&&◌, ◌||◌, is_some, nat_lt, unwrap_or}
 use Rattle.std.proofs.lemmas.List.{take_all}
 use Rattle.raster.specs.declared.rect.Rect.{Rect}
 use Rattle.raster.specs.Update.{Update}
 use Rattle.reflect_core.specs.Asked.{pending, last_cut}
 use Rattle.reflect_core.specs.Plain.{Plain}
-use Rattle.viewer_session.specs.Record.{events}
-use Rattle.viewer_session.specs.Turn.{has_reason}
-use Rattle.viewer_session.specs.Viewer.{Setup, Viewer, after_cut}
-use Rattle.viewer_session.specs.Session.{State, Stands, CutsAt, HasCounted, wants_cut, without_look}
+use Rattle.viewer_session.specs.Chosen.{MayBeChosen}
+use Rattle.viewer_session.specs.Record.{choice_of, events}
+use Rattle.viewer_session.specs.Turn.{Chosen, has_reason}
+use Rattle.viewer_session.specs.Viewer.{Setup, Viewer, after_cut, after_cut_as}
+use Rattle.viewer_session.specs.Session.{State, Stands, CutsAt, IsCut, HasCounted, wants_cut, without_look}
 use Rattle.reflect_world.specs.World.{Held, HasTurned, with_session}
 use Rattle.reflect_world.proofs.Places.{stands_without_look}
 
@@ -32,6 +33,18 @@ pub screen_stays : (before after : Plain) (old new : State) (us : List Update) (
 screen_stays before after old new us least most looked true e idle cuts = (cuts e).cut.1
 screen_stays before after old new us least most looked false e idle cuts = idle e
 
+-- Where no viewer is answered in ZRLE nothing is chosen.
+heeds_none : (zrle takes : Bool) → zrle ≡ false → (zrle && takes) ≡ true → ⊥
+heeds_none true takes z e = absurd cc
+heeds_none false takes z e = absurd cc
+
+plain_by : (s : Setup) (st : State) (us : List Update) (p : Viewer) (chosen : Option Chosen) → s.zrle ≡ false → MayBeChosen s us p.entries p.stream chosen → Stands s st (after_cut_as s us chosen p) → Stands s st (after_cut s us p)
+plain_by s st us p None z may k = k
+plain_by s st us p (Some chosen) z may k = absurd (heeds_none s.zrle (choice_of p.entries).zrle z may.heeded)
+
+plain_cut : (s : Setup) (st : State) (us : List Update) (p : Viewer) → s.zrle ≡ false → IsCut s st us p → Stands s st (after_cut s us p)
+plain_cut s st us p z k = plain_by s st us p k.chosen z k.may_be k.stands
+
 pub has_turned : {S : Type 0} (cutting : S → ℕ → S → Type 0) (screen : S) (old : Held) (session : State) (us : List Update) (looked : ℕ) → (wants_cut old.session.asked looked ≡ false → session ≡ old.session)
     → (wants_cut old.session.asked looked ≡ true → CutsAt cutting screen screen old.session session us (length us) (length us)) → HasTurned old (with_session old session) looked us
 has_turned cutting screen old session us looked idle cuts =
@@ -39,8 +52,8 @@ has_turned cutting screen old session us looked idle cuts =
       others = refl;
       stays = λ s p k e. subst (λ (st : State). Stands s st (without_look p)) (sym (idle (reason_is s old.session p looked k ∙ e))) (stands_without_look s old.session p k);
       cuts =
-          λ s p counted k e.
+          λ s p plain counted k e.
           let cut = cuts (reason_is s old.session p looked k ∙ e) in
-          subst (λ (known : List Update). Stands s session (after_cut s known p)) (take_all cut.number us cut.fresh) (cut.stands s p counted k);
+          subst (λ (known : List Update). Stands s session (after_cut s known p)) (take_all cut.number us cut.fresh) (plain_cut s session (take cut.number us) p plain (cut.stands s p counted k));
       counted = counted_by cutting screen old session us looked (wants_cut old.session.asked looked) refl idle cuts;
     }

@@ -78,9 +78,10 @@ pub record Kept : Type 0 where
   pub steps : List Step
   pub is_refused : Bool
 
--- The setup of the definitions: the world's screen, its room and its form. Its viewers aren't told of sizes.
+-- The setup of the definitions: the world's screen, its room and its form. Its viewers aren't told of sizes, and aren't
+-- answered in ZRLE.
 abbrev pub setup_of : Kept → Setup
-setup_of k = record { w = k.width; h = k.height; name = k.name; room = k.room; runs = k.runs; host = None }
+setup_of k = record { w = k.width; h = k.height; name = k.name; room = k.room; runs = k.runs; host = None; zrle = false }
 
 -- The world of the definitions that its schedule makes.
 abbrev pub world_of : Kept → World
@@ -156,6 +157,7 @@ pub record Reached (s : Setup) (standing : Standing) (w : World) : Type 0 where
   pub width : standing.screen.width ≡ s.w
   pub height : standing.screen.height ≡ s.h
   pub in_order : ArePutInOrder s w
+  pub plain : s.zrle ≡ false
   pub updates : AreSameFrom s.w s.h opening opening w.shared.updates standing.screen.updates
   pub tally : standing.screen.tally ≡ w.shared.tally
   pub host_width : standing.host.decoder.width ≡ s.w
@@ -217,7 +219,7 @@ pub record IsBrokenOff (old new : Held) : Type 0 where
 pub record HasTurned (old new : Held) (looked : ℕ) (us : List Update) : Type 0 where
   pub others : new ≡ with_session old new.session
   pub stays : (s : Setup) (p : Viewer) → Stands s old.session p → has_reason s.w s.h p.entries looked ≡ false → Stands s new.session (without_look p)
-  pub cuts : (s : Setup) (p : Viewer) → HasCounted old.session us → Stands s old.session p → has_reason s.w s.h p.entries looked ≡ true → Stands s new.session (after_cut s us p)
+  pub cuts : (s : Setup) (p : Viewer) → s.zrle ≡ false → HasCounted old.session us → Stands s old.session p → has_reason s.w s.h p.entries looked ≡ true → Stands s new.session (after_cut s us p)
   pub counted : HasCounted old.session us → HasCounted new.session us
 
 -- The viewer went on with its turn, where it had looked; otherwise nothing changed.
@@ -261,7 +263,7 @@ TakesStep e old new = (s : Setup) (w : World) → Reached s old w → Reached s 
 
 -- The same as TakesStep, over a screen of this name whose viewers are answered in this form, and told of no sizes.
 abbrev pub JoinsUnder : List ℕ → Runs → Step → Standing → Standing → Type 0
-JoinsUnder name runs e old new = (s : Setup) (w : World) → s.name ≡ name → s.runs ≡ runs → s.host ≡ None → Reached s old w → Reached s new (happens s w e)
+JoinsUnder name runs e old new = (s : Setup) (w : World) → s.name ≡ name → s.runs ≡ runs → s.host ≡ None → s.zrle ≡ false → Reached s old w → Reached s new (happens s w e)
 
 -- If the old fields stood for a world, the new ones stand for it, too.
 abbrev pub StaysFor : Standing → Standing → Type 0
@@ -278,7 +280,7 @@ Leaves old new fault = StaysSeen old new × (fault ≡ NumbersOut → StaysFor o
 -- If the old fields showed a world, the new ones show what this step makes of it, over a screen of this name whose
 -- viewers are answered in this form, and told of no sizes.
 abbrev pub ShowsUnder : List ℕ → Runs → Step → Standing → Standing → Type 0
-ShowsUnder name runs e old new = (s : Setup) (w : World) → s.name ≡ name → s.runs ≡ runs → s.host ≡ None → Shows s old w → Shows s new (happens s w e)
+ShowsUnder name runs e old new = (s : Setup) (w : World) → s.name ≡ name → s.runs ≡ runs → s.host ≡ None → s.zrle ≡ false → Shows s old w → Shows s new (happens s w e)
 
 -- The same as ShowsUnder, whatever the name and the form.
 abbrev pub ShowsStep : Step → Standing → Standing → Type 0

@@ -15,7 +15,7 @@ use reflect_core::PlainScreen;
 use roles::{Input, Role};
 use std::alloc::Global;
 use std::marker::Model;
-use viewer_session::Session;
+use viewer_session::{AnswerForm, Session};
 
 /// A viewer's session, the reply of its last step where that was a look, all bytes that were written to it, and its own
 /// bytes that are unread since an input of it waits.
@@ -51,13 +51,14 @@ impl Place {
         requires name { (1 ≤ length name.now) × (length name.now ≤ 255) }
         ensures fresh { IfOk result (λ place. (place.looked ≡ None) × (place.written ≡ []) × (place.unread ≡ [])) }
         ensures uncut { IfOk result (λ place. place.session.asked.last ≡ None) }
-        ensures stands { IfOk result (λ place. (s : Setup) → s.w ≡ width → s.h ≡ height → s.name ≡ name.now → s.runs ≡ runs → s.host ≡ None → Stands s place.session (new_viewer role greet)) }
+        ensures stands { IfOk result (λ place. (s : Setup) → s.w ≡ width → s.h ≡ height → s.name ≡ name.now → s.runs ≡ runs → s.host ≡ None → s.zrle ≡ false → Stands s place.session (new_viewer role greet)) }
         ensures err { IfErr result (λ fault. fault ≡ Memory) }
     {
+        let form = AnswerForm { runs, zrle: false };
         let session = if greet {
-            Session::open(alloc, width, height, name, role, runs, None)?
+            Session::open(alloc, width, height, name, role, form, None)?
         } else {
-            Session::ready(alloc, width, height, role, runs, None)?
+            Session::ready(alloc, width, height, role, form, None)?
         };
         Ok(Place {
             session,

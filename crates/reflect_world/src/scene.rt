@@ -51,7 +51,7 @@ impl Scene {
     /// The scene before any step. It fails where memory is refused (`Memory`).
     pub(crate) fn new(alloc: Global, width: u64, height: u64, room: u64) -> Result<Self, Fault>
         requires { IsScreenSize width height }
-        ensures ok { IfOk result (λ scene. (s : Setup) → s.w ≡ width → s.h ≡ height → s.room ≡ room → Reached s scene beginning) }
+        ensures ok { IfOk result (λ scene. (s : Setup) → s.w ≡ width → s.h ≡ height → s.room ≡ room → s.zrle ≡ false → Reached s scene beginning) }
         ensures err { IfErr result (λ fault. fault ≡ Memory) }
     {
         let Ok(places) = free_places(alloc) else {

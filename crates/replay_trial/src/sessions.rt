@@ -11,10 +11,10 @@ use reflect_core::{PlainScreen, Puts, ScreenSource};
 use rfb_wire::ClientMessage;
 use roles::{Held, Role};
 use std::alloc::Global;
-use viewer_session::Session;
+use viewer_session::{AnswerForm, Session};
 
 /// Plays the lines over a new session, with its hello or after it, and answers the first line that comes out otherwise.
-/// Where there is a host's size, the viewer is told of sizes.
+/// Where there is a host's size, the viewer is told of sizes. It may be answered in ZRLE where `zrle` says so.
 pub fn play_session<'a>(
     alloc: Global,
     width: u64,
@@ -22,13 +22,18 @@ pub fn play_session<'a>(
     lines: &'a str,
     greets: bool,
     host: Option<Size>,
+    zrle: bool,
 ) -> Option<&'a str>
     requires { IsScreenSize width height }
 {
+    let form = AnswerForm {
+        runs: Runs::OfRows,
+        zrle,
+    };
     let opened = if greets {
-        Session::open(alloc, width, height, b"T", Role::Full, Runs::OfRows, host)
+        Session::open(alloc, width, height, b"T", Role::Full, form, host)
     } else {
-        Session::ready(alloc, width, height, Role::Full, Runs::OfRows, host)
+        Session::ready(alloc, width, height, Role::Full, form, host)
     };
     let Ok(mut session) = opened else {
         return Some("no session");

@@ -62,10 +62,11 @@ impl<'a> Case<'a> {
         match self.kind {
             "world" => play_world(alloc, self.width, self.height, self.lines, 0),
             "cuts" => self.otherwise_cut(alloc),
-            "open" => self.otherwise_of(alloc, true, None),
-            "ready" => self.otherwise_of(alloc, false, None),
-            "sized" => self.otherwise_of(alloc, false, Some(PIXEL)),
-            "larger" => self.otherwise_of(alloc, false, Some(LARGER)),
+            "open" => self.otherwise_of(alloc, true, None, false),
+            "ready" => self.otherwise_of(alloc, false, None, false),
+            "zrle" => self.otherwise_of(alloc, false, None, true),
+            "sized" => self.otherwise_of(alloc, false, Some(PIXEL), false),
+            "larger" => self.otherwise_of(alloc, false, Some(LARGER), false),
             "full" => play_held(Role::Full, self.lines),
             "view" => play_held(Role::View, self.lines),
             _ => Some("no kind"),
@@ -74,10 +75,24 @@ impl<'a> Case<'a> {
 
     /// The first such line of a session, with its hello or after it. Where there is a host's size, its viewer is told of
     /// sizes, and this is the first.
-    fn otherwise_of(&self, alloc: Global, greets: bool, host: Option<Size>) -> Option<&'a str>
+    fn otherwise_of(
+        &self,
+        alloc: Global,
+        greets: bool,
+        host: Option<Size>,
+        zrle: bool,
+    ) -> Option<&'a str>
         requires { IsScreenSize self.now.width self.now.height }
     {
-        play_session(alloc, self.width, self.height, self.lines, greets, host)
+        play_session(
+            alloc,
+            self.width,
+            self.height,
+            self.lines,
+            greets,
+            host,
+            zrle,
+        )
     }
 
     /// The first such line of a world whose viewer's bytes are cut, at one place after the other.

@@ -19,10 +19,11 @@ use Rattle.link.specs.Links.{LinkState, HasRisen}
 use Rattle.reflect_core.specs.Asked.{pending, last_cut}
 use Rattle.reflect_core.specs.Sequential.{Begins}
 use Rattle.viewer_session.specs.Record.{Entry, Saw, MadeCut, NumbersUpTo, events}
-use Rattle.viewer_session.specs.Turn.{has_reason, size_at, told_at, update_at, sent_at}
+use Rattle.viewer_session.specs.Chosen.{MayBeChosen}
+use Rattle.viewer_session.specs.Turn.{Chosen, has_reason, size_at, told_at, update_at, sent_as, with_chosen}
 use Rattle.viewer_session.specs.Viewer as viewer
-use Rattle.viewer_session.specs.Viewer.{Setup, Viewer, new_viewer, out_bytes, may_look, viewer_fault, after_bytes, after_cut}
-use Rattle.viewer_session.specs.Session.{State, Stands, Turns, CutsAt, HasCounted, Greets, IsBetween, after_look, after_writing, with_marks, without_input, IsSameSession, fault_in, hello_of, is_greeted, is_ready, wants_cut}
+use Rattle.viewer_session.specs.Viewer.{Setup, Viewer, new_viewer, out_bytes, may_look, viewer_fault, after_bytes, after_cut_as}
+use Rattle.viewer_session.specs.Session.{State, Stands, Turns, CutsAt, IsCut, HasCounted, Greets, IsBetween, after_look, after_writing, with_marks, without_input, IsSameSession, fault_in, hello_of, is_greeted, is_ready, wants_cut}
 use Rattle.viewer_session.proofs.SessionLaws.{fault_stands, stands_saw, unsent_left}
 use Rattle.viewer_session.proofs.Stands.{numbers_more}
 use Rattle.viewer_server.specs.Serving.{EachAnswerHolds, CutsWell, MayBe, AllMayBe, IsShown, bytes_in, has_turned, HaltsBy, LinkHalts}
@@ -32,7 +33,7 @@ use Rattle.viewer_server.specs.declared.breaks.Break.{Break}
 use Rattle.viewer_server.specs.declared.breaks.Break.TheVariants.{At, Refused}
 use Rattle.viewer_server.proofs.Following.{holds_after_each_answer}
 use Rattle.reflect_core.specs.declared.cut.Cut.{Cut}
-use Rattle.viewer_session.specs.Acts.{Act, Bytes, Turn, Written, Passed, after_act, viewer_after, waiting_list, HasPassed}
+use Rattle.viewer_session.specs.Acts.{Act, Cutting, Bytes, Turn, Written, Passed, after_act, viewer_after, waiting_list, HasPassed}
 use Rattle.viewer_session.proofs.Growing.{HasGrown, grown_bytes, early}
 use Rattle.viewer_session.proofs.Passing.{passed_as, passed_begins, began_messages, began_last, passed_bytes, passed_on}
 
@@ -44,9 +45,14 @@ taken_more us known n b le = ap (take n) b.1 ∙ take-append-le n us b.0 le
 pub length_more : (us known : List Update) → Begins us known → length us ≤ length known
 length_more us known b = omega (arith, ap length b.1, length-append us b.0)
 
-cuts_more : (s : Setup) (us known : List Update) (p : Viewer) (looked : ℕ) (cut : Option ℕ) → Begins us known → CutsWell s us p looked cut → CutsWell s known p looked cut
+cuts_more : (s : Setup) (us known : List Update) (p : Viewer) (looked : ℕ) (cut : Option Cutting) → Begins us known → CutsWell s us p looked cut → CutsWell s known p looked cut
 cuts_more s us known p looked None b k = k
-cuts_more s us known p looked (Some n) b k = (k.0, let le = k.1 in let more = length_more us known b in omega (arith, le, more), k.2)
+cuts_more s us known p looked (Some cut) b k = (
+  k.0,
+  let le = k.1 in let more = length_more us known b in omega (arith, le, more),
+  k.2,
+  subst (λ t. MayBeChosen s t (Saw looked ∷ p.entries) p.stream cut.chosen) (sym (taken_more us known cut.number b k.1)) k.3,
+)
 
 may_more : (s : Setup) (us known : List Update) (p : Viewer) (act : Act) → Begins us known → MayBe s us p act → MayBe s known p act
 may_more s us known p (Bytes marks bytes) b k = k
@@ -57,7 +63,7 @@ may_more s us known p Passed b k = k
 act_same : (s : Setup) (us known : List Update) (p : Viewer) (act : Act) → Begins us known → MayBe s us p act → after_act s known act p ≡ after_act s us act p
 act_same s us known p (Bytes marks bytes) b k = refl
 act_same s us known p (Turn looked None) b k = refl
-act_same s us known p (Turn looked (Some n)) b k = ap (λ t. after_cut s t (after_look looked p)) (taken_more us known n b k.2.1)
+act_same s us known p (Turn looked (Some cut)) b k = ap (λ t. after_cut_as s t cut.chosen (after_look looked p)) (taken_more us known cut.number b k.2.1)
 act_same s us known p (Written count) b k = refl
 act_same s us known p Passed b k = refl
 
@@ -262,11 +268,11 @@ turned_began n None None looked es = refl
 turned_began n None (Some found) looked es = refl
 
 -- A cut adds to what is sent.
-cut_front : (s : Setup) (us : List Update) (p : Viewer) → p.written ≤ length (out_bytes s p) → take p.written (out_bytes s (after_cut s us p)) ≡ take p.written (out_bytes s p)
-cut_front s us p le =
+cut_front : (s : Setup) (us : List Update) (chosen : Option Chosen) (p : Viewer) → p.written ≤ length (out_bytes s p) → take p.written (out_bytes s (after_cut_as s us chosen p)) ≡ take p.written (out_bytes s p)
+cut_front s us chosen p le =
     let hello : List ℕ = if p.greet then said_to_viewer s.w s.h s.name p.said else [] in
-    let more : List ℕ = sent_at s.runs s.w s.h s.host p.entries us in
-    same_front (out_bytes s p) (out_bytes s (after_cut s us p)) more p.written (sym (append_assoc hello p.said_after more)) le
+    let more : List ℕ = sent_as chosen s.runs s.w s.h s.host p.entries us in
+    same_front (out_bytes s p) (out_bytes s (after_cut_as s us chosen p)) more p.written (sym (append_assoc hello p.said_after more)) le
 
 pub serving_turns : {S : Type 0} (looks cuts : S → ℕ → S → Type 0) (a b c : S) (us known : List Update) (most now_most : ℕ) (s : Setup) (p : Viewer) (st next : State) (box : Unpassed) (x y : List Input) (w : Bool) (old now : LinkState)
     → IsServing looks cuts a b us most s p st box x y false old now → Begins us known → is_ready st ≡ true → (t : Turns looks cuts b c st next known most now_most) → wants_cut st.asked t.looked ≡ w
@@ -302,26 +308,28 @@ serving_turns looks cuts a b c us known most now_most s p st next box x y true o
     let same : viewer_after s known p k.acts ≡ q = after_same s us known p k.acts begins k.may_be in
     let cut : CutsAt cuts t.behind c st next known (max most t.looked) now_most = t.cut reason in
     let first : List Update = take cut.number known in
-    let v : Viewer = after_cut s first (after_look t.looked q) in
-    let after : after_cut s first (after_look t.looked (viewer_after s known p k.acts)) ≡ v = ap (λ u. after_cut s first (after_look t.looked u)) same in
+    let made : IsCut s next first (after_look t.looked bare) = cut.stands s (after_look t.looked bare) (counted_more st us known begins k.counted) (stands_saw s st bare t.looked k.stands) in
+    let turn : Act = Turn t.looked (Some (record { number = cut.number; chosen = made.chosen })) in
+    let v : Viewer = after_cut_as s first made.chosen (after_look t.looked q) in
+    let after : after_cut_as s first made.chosen (after_look t.looked (viewer_after s known p k.acts)) ≡ v = ap (λ u. after_cut_as s first made.chosen (after_look t.looked u)) same in
     let fresh = cut.fresh in
     let bounded = cut.bounded in
     let all : length first ≡ cut.number = let there = cut.known in omega (arith, length-take cut.number known, there) in
     let size : Option Size = size_at s.w s.h s.host (Saw t.looked ∷ q.entries) first in
-    let found : Option (Rect × List ℕ) = update_at s.runs s.w s.h (Saw t.looked ∷ q.entries) first in
+    let found : Option (Rect × List ℕ) = with_chosen made.chosen (update_at s.runs s.w s.h (Saw t.looked ∷ q.entries) first) in
     record {
-      acts = Turn t.looked (Some cut.number) ∷ k.acts;
+      acts = turn ∷ k.acts;
       begun = k.begun;
       sent = k.sent;
       may_be = (
         all_more s us known p k.acts begins k.may_be,
-        subst (λ u. MayBe s known u (Turn t.looked (Some cut.number))) (sym same)
-            (sym (ready_is s st bare k.stands) ∙ ready, t.seen, (sym (reason_is s st bare t.looked k.stands) ∙ reason, cut.known, (omega (arith, fresh), numbers_more most cut.number q.entries (omega (arith, fresh)) k.numbers))),
+        subst (λ u. MayBe s known u turn) (sym same)
+            (sym (ready_is s st bare k.stands) ∙ ready, t.seen, (sym (reason_is s st bare t.looked k.stands) ∙ reason, cut.known, (omega (arith, fresh), numbers_more most cut.number q.entries (omega (arith, fresh)) k.numbers), made.may_be)),
       );
       shown = (b, t.behind, k.shown, t.replied, cut.cut);
       taken = k.taken;
-      given = k.given ∙ (ap (λ t. old.given ++ t) (sym (cut_front s first (after_look t.looked q) k.stands.serves.written)) ∙ ap (λ u. old.given ++ take u.written (out_bytes s u)) (sym after));
-      stands = subst (λ u. Stands s next (without_input u)) (sym after) (cut.stands s (after_look t.looked bare) (counted_more st us known begins k.counted) (stands_saw s st bare t.looked k.stands));
+      given = k.given ∙ (ap (λ t. old.given ++ t) (sym (cut_front s first made.chosen (after_look t.looked q) k.stands.serves.written)) ∙ ap (λ u. old.given ++ take u.written (out_bytes s u)) (sym after));
+      stands = subst (λ u. Stands s next (without_input u)) (sym after) made.stands;
       waiting = ap (λ (u : Viewer). u.waiting) after ∙ k.waiting;
       took = k.took;
       passed = subst (λ u. HasPassed u k.sent) (sym after)

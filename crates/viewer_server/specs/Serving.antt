@@ -12,16 +12,20 @@ use Rattle.reflect_core.specs.Sequential.{Begins}
 use Rattle.viewer_session.specs.Record.{Entry, Took, Saw, MadeCut, Began, ToldSize, NumbersUpTo, before_last, messages_in, received}
 use Rattle.viewer_session.specs.Told.{KnowsSize}
 use Rattle.viewer_session.specs.Turn.{has_reason}
-use Rattle.viewer_session.specs.Acts.{Act, Bytes, Turn, Written, Passed, viewer_after}
+use Rattle.viewer_session.specs.Chosen.{HoldsAnswer, MayBeChosen}
+use Rattle.viewer_session.specs.Acts.{Act, Cutting, Bytes, Turn, Written, Passed, viewer_after}
 use Rattle.viewer_session.specs.Viewer.{Setup, Viewer, out_bytes, may_look, viewer_fault}
 use Rattle.viewer_session.specs.Session.{HasOnlyLooked, IsBetween}
 
 -- A list of acts has the latest first.
 
--- A turn cuts where there is reason, at a number of updates that is at least each number that was seen or cut at.
-abbrev pub CutsWell : Setup → List Update → Viewer → (looked : ℕ) → Option ℕ → Type 0
+-- A turn cuts where there is reason, at a number of updates that is at least each number that was seen or cut at. What
+-- its session chose of the answer, it may choose.
+abbrev pub CutsWell : Setup → List Update → Viewer → (looked : ℕ) → Option Cutting → Type 0
 CutsWell s us p looked None = has_reason s.w s.h p.entries looked ≡ false
-CutsWell s us p looked (Some n) = (has_reason s.w s.h p.entries looked ≡ true) × (n ≤ length us) × NumbersUpTo n (Saw looked ∷ p.entries)
+CutsWell s us p looked (Some cut) =
+    (has_reason s.w s.h p.entries looked ≡ true) × (cut.number ≤ length us) × NumbersUpTo cut.number (Saw looked ∷ p.entries)
+    × MayBeChosen s (take cut.number us) (Saw looked ∷ p.entries) p.stream cut.chosen
 
 -- An act may be done for the viewer. No bytes are read while an input waits. It has a turn only where all of its bytes
 -- are written, its hello is done and it has no fault.
@@ -36,10 +40,10 @@ abbrev pub AllMayBe : Setup → List Update → Viewer → List Act → Type 0
 AllMayBe s us p [] = Unit {0}
 AllMayBe s us p (act ∷ acts) = AllMayBe s us p acts × MayBe s us (viewer_after s us p acts) act
 
--- After the look the source was cut once, with this number, or left alone.
-abbrev pub HasCut : {S : Type 0} → (cuts : S → ℕ → S → Type 0) → Option ℕ → (before after : S) → Type 0
+-- After the look the source was cut once, with the cut's number, or left alone.
+abbrev pub HasCut : {S : Type 0} → (cuts : S → ℕ → S → Type 0) → Option Cutting → (before after : S) → Type 0
 HasCut {S} cuts None before after = after ≡ before
-HasCut {S} cuts (Some number) before after = cuts before number after
+HasCut {S} cuts (Some cut) before after = cuts before cut.number after
 
 -- The looks and cuts of the turns are all that was done to the source: one look a turn, with the source's own reply,
 -- and then one cut, with its own number, where the turn has one.
@@ -124,13 +128,17 @@ pub record Relays (was_set : Type 0) (may_refuse : Fault → Type 0) (p : Viewer
   pub whole : (sent ≡ all_allowed p) ⊎ IsHeldBack was_set may_refuse answer sent (all_allowed p)
 
 -- After an answer a follower of all answers holds the area asked for, of the screen after the first n of these updates,
--- in the format last taken before the cut; n is at least every number that was seen or cut at before; and a viewer that
--- takes new sizes was told that of the host's screen after these n.
+-- in the format last taken before the cut. Where no viewer is answered in ZRLE, so does a follower that doesn't take it.
+abbrev pub HoldsEither : Setup → List Update → Rect → ℕ → List ℕ → List Entry → Type 0
+HoldsEither s us area n bytes earlier =
+    HoldsAnswer s.w s.h us area n bytes earlier × (s.zrle ≡ false → HoldsArea (follower s.w s.h (received (Began area n bytes ∷ earlier))) area (take n us))
+
+-- This holds after each answer; n is at least every number that was seen or cut at before; and a viewer that takes new
+-- sizes was told that of the host's screen after these n.
 abbrev pub EachAnswerHolds : Setup → List Update → Viewer → Type 0
 EachAnswerHolds s us p =
     (later earlier : List Entry) (area : Rect) (n : ℕ) (bytes : List ℕ) → p.entries ≡ later ++ Began area n bytes ∷ earlier
-    → (n ≤ length us) × NumbersUpTo n earlier × HoldsArea (follower s.w s.h (received (Began area n bytes ∷ earlier))) area (take n us)
-    × KnowsSize s.w s.h s.host (take n us) earlier
+    → (n ≤ length us) × NumbersUpTo n earlier × HoldsEither s us area n bytes earlier × KnowsSize s.w s.h s.host (take n us) earlier
 
 -- A viewer was served. Each act that was done for it may be done. All bytes that were taken are read, but for those
 -- after a message whose input waits. It was given as many bytes of its hello and answers, from the first on, as count

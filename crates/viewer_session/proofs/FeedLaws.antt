@@ -84,6 +84,7 @@ read_on s now mid q r both e reads w short =
         height = k.height;
         runs = k.runs;
         host = k.host;
+        zrle = k.zrle;
         role = k.role;
         rests = ap (λ (p : Viewer). with_reading p r) k.rests;
         greets = k.greets;
@@ -93,6 +94,7 @@ read_on s now mid q r both e reads w short =
         keeps = record { asked = k.keeps.asked; have = k.keeps.have; format = k.keeps.format; choice = k.keeps.choice; told = k.keeps.told };
         written = k.written;
         unsent = k.unsent;
+        begun = k.begun;
       };
       relays = record { waiting = both.relays.waiting; keys = both.relays.keys; held = both.relays.held };
     } in

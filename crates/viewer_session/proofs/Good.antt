@@ -1,6 +1,6 @@
 -- What stands of a viewer whatever its bytes: its record, and what it is sent. The laws over whole schedules begin from
 -- it.
-use Rattle.std.proofs.Common.{◌≡◌, ℕ, ◌≤◌, Bool, true, false, cond, List, [], ◌∷◌, ◌++◌, length, Option, refl, ap, sym, ◌∙◌}
+use Rattle.std.proofs.Common.{◌≡◌, ℕ, ◌≤◌, Bool, true, false, cond, List, [], ◌∷◌, ◌++◌, length, Option, None, refl, ap, sym, ◌∙◌}
 use Rattle.byte_reading.specs.Reading.{Reading, Done, Faulty, Want, Gives, step}
 use Rattle.raster.specs.Update.{Update}
 use Rattle.rfb_wire.specs.ClientMessage.{ClientMessage, SetPixelFormat, SetEncodings, Ask, Key, Pointer, CutText, LostText, client_message, without_text}
@@ -38,7 +38,7 @@ lost_fine : (b : Bool) (text : List ℕ) → HasAcceptedFormat (cond b (without_
 lost_fine true text = tt
 lost_fine false text = tt
 
-marked_fine : (marks : List Bool) (m : ClientMessage) → HasAcceptedFormat m → HasAcceptedFormat (marked marks m).0
+pub marked_fine : (marks : List Bool) (m : ClientMessage) → HasAcceptedFormat m → HasAcceptedFormat (marked marks m).0
 marked_fine [] (SetPixelFormat format) k = k
 marked_fine [] (SetEncodings choice) k = tt
 marked_fine [] (Ask incremental area) k = tt
@@ -64,7 +64,7 @@ good_reading s us p (Done m) fine k = good_message s us p (marked p.lost m) (mar
 good_reading s us p (Faulty f) fine k = record { record_stands = k.record_stands; knows = k.knows; reading = tt; said = k.said }
 good_reading s us p (Want more) fine k = record { record_stands = k.record_stands; knows = k.knows; reading = fine; said = k.said }
 
-step_fine : (r : Reading ClientMessage) (b : ℕ) → Gives HasAcceptedFormat r → Gives HasAcceptedFormat (step r b)
+pub step_fine : (r : Reading ClientMessage) (b : ℕ) → Gives HasAcceptedFormat r → Gives HasAcceptedFormat (step r b)
 step_fine (Done m) b k = k
 step_fine (Faulty f) b k = k
 step_fine (Want more) b k = k b
@@ -83,7 +83,7 @@ pub good_cut : (s : Setup) (us : List Update) (p : Viewer) → s.w ≤ 4096 → 
 good_cut s us p lw lh k =
     record {
       record_stands = stands_cut s.runs s.w s.h s.host us p.entries lw lh k.record_stands;
-      knows = know_cut s.runs s.w s.h s.host us p.entries k.knows;
+      knows = know_cut s.runs s.w s.h s.host us p.entries None k.knows;
       reading = k.reading;
       said = ap (λ t. t ++ sent_at s.runs s.w s.h s.host p.entries us) k.said ∙ sym (stream_after_cut s.runs s.w s.h s.host us p.entries);
     }

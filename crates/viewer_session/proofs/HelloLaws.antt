@@ -184,6 +184,7 @@ serves_hello s st p g hello said piece unsent k greets written left =
       height = k.height;
       runs = k.runs;
       host = k.host;
+      zrle = k.zrle;
       role = k.role;
       rests = ap (λ (q : Viewer). record q { hello = hello; said = said }) k.rests;
       greets = greets;
@@ -193,6 +194,7 @@ serves_hello s st p g hello said piece unsent k greets written left =
       keeps = record { asked = k.keeps.asked; have = k.keeps.have; format = k.keeps.format; choice = k.keeps.choice; told = k.keeps.told };
       written = written;
       unsent = left;
+      begun = k.begun;
     }
 
 -- While more of the hello is to come, it is all that the viewer is sent.

@@ -9,6 +9,8 @@ pub mod KeptShort
 pub mod Relaying
 pub mod Taking
 pub mod TurnLaws
+pub mod WholeAnswers
+pub mod SentAs
 pub mod Parts
 pub mod Stands
 pub mod Told
@@ -16,6 +18,8 @@ pub mod Accepted
 pub mod Streams
 pub mod Bytes
 pub mod Growing
+pub mod AllHeld
 pub mod Good
+pub mod Holding
 pub mod Passing
 pub mod Vectors

@@ -12,8 +12,8 @@ use Rattle.roles.specs.Held.{Kept, HeldStands, input_for, left_in, passes_if, pa
 use Rattle.roles.proofs.HeldLaws.{all_released, full_stands, full_allowed}
 use Rattle.reflect_core.specs.Sequential.{Begins}
 use Rattle.viewer_session.specs.Record.{Entry, Took, Saw, MadeCut, before_last, messages_in}
-use Rattle.viewer_session.specs.Turn.{size_at, told_at, update_at}
-use Rattle.viewer_session.specs.Acts.{Act, Bytes, Turn, Written, Passed, HasPassed, HandsOutAllowed, ReleasesAllowed, after_turn, handed_out, viewer_after, waiting_list}
+use Rattle.viewer_session.specs.Turn.{size_at, told_at, update_at, with_chosen}
+use Rattle.viewer_session.specs.Acts.{Act, Cutting, Bytes, Turn, Written, Passed, HasPassed, HandsOutAllowed, ReleasesAllowed, after_turn, handed_out, viewer_after, waiting_list}
 use Rattle.viewer_session.specs.Viewer.{Setup, Viewer, new_viewer, with_input, with_message, marked, after_bytes, after_reading}
 use Rattle.viewer_session.specs.Session.{with_marks, without_input}
 use Rattle.viewer_session.proofs.Bytes.{keeps_bytes, same_role}
@@ -113,12 +113,12 @@ passed_on p sent k =
 
 -- ---- all acts
 
-passed_turn : (s : Setup) (us : List Update) (p : Viewer) (looked : ℕ) (cut : Option ℕ) (sent : List Input) → HasPassed p sent → HasPassed (after_turn s us looked cut p) sent
+passed_turn : (s : Setup) (us : List Update) (p : Viewer) (looked : ℕ) (cut : Option Cutting) (sent : List Input) → HasPassed p sent → HasPassed (after_turn s us looked cut p) sent
 passed_turn s us p looked None sent k = passed_as p _ sent k refl refl refl refl refl
-passed_turn s us p looked (Some n) sent k =
-    let first : List Update = take n us in
+passed_turn s us p looked (Some cut) sent k =
+    let first : List Update = take cut.number us in
     let size : Option Size = size_at s.w s.h s.host (Saw looked ∷ p.entries) first in
-    let o : Option (Rect × List ℕ) = update_at s.runs s.w s.h (Saw looked ∷ p.entries) first in
+    let o : Option (Rect × List ℕ) = with_chosen cut.chosen (update_at s.runs s.w s.h (Saw looked ∷ p.entries) first) in
     passed_as p _ sent k refl refl refl (began_messages (length first) size o (Saw looked ∷ p.entries)) (began_last (length first) size o (Saw looked ∷ p.entries))
 
 pub passed_all : (s : Setup) (us : List Update) (p : Viewer) (acts : List Act) → HasPassed p [] → HasPassed (viewer_after s us p acts) (handed_out s us p acts)
@@ -129,9 +129,9 @@ passed_all s us p (Turn looked cut ∷ acts) k = passed_turn s us (viewer_after 
 passed_all s us p (Written count ∷ acts) k = passed_as (viewer_after s us p acts) _ (handed_out s us p acts) (passed_all s us p acts k) refl refl refl refl refl
 passed_all s us p (Passed ∷ acts) k = passed_on (viewer_after s us p acts) (handed_out s us p acts) (passed_all s us p acts k)
 
-role_turn : (s : Setup) (us : List Update) (p : Viewer) (looked : ℕ) (cut : Option ℕ) → (after_turn s us looked cut p).role ≡ p.role
+role_turn : (s : Setup) (us : List Update) (p : Viewer) (looked : ℕ) (cut : Option Cutting) → (after_turn s us looked cut p).role ≡ p.role
 role_turn s us p looked None = refl
-role_turn s us p looked (Some n) = refl
+role_turn s us p looked (Some cut) = refl
 
 pub role_after : (s : Setup) (us : List Update) (p : Viewer) (acts : List Act) → (viewer_after s us p acts).role ≡ p.role
 role_after s us p [] = refl

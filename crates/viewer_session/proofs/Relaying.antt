@@ -22,6 +22,7 @@ serves_held s st p held waiting k =
       height = k.height;
       runs = k.runs;
       host = k.host;
+      zrle = k.zrle;
       role = k.role;
       rests = k.rests;
       greets = k.greets;
@@ -31,6 +32,7 @@ serves_held s st p held waiting k =
       keeps = record { asked = k.keeps.asked; have = k.keeps.have; format = k.keeps.format; choice = k.keeps.choice; told = k.keeps.told };
       written = k.written;
       unsent = k.unsent;
+      begun = k.begun;
     }
 
 pub serves_input : (s : Setup) (st : State) (p : Viewer) (keys : List ℕ) (waiting : Option Input) → Serves s st p → Serves s st (record p { keys = keys; waiting = waiting })
@@ -40,6 +42,7 @@ serves_input s st p keys waiting k =
       height = k.height;
       runs = k.runs;
       host = k.host;
+      zrle = k.zrle;
       role = k.role;
       rests = ap (λ (q : Viewer). record q { keys = keys; waiting = waiting }) k.rests;
       greets = k.greets;
@@ -49,6 +52,7 @@ serves_input s st p keys waiting k =
       keeps = k.keeps;
       written = k.written;
       unsent = k.unsent;
+      begun = k.begun;
     }
 
 -- ---- a message is taken

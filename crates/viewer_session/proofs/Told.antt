@@ -13,7 +13,7 @@ use Rattle.joined_runs.specs.declared.runs.Runs.{Runs}
 use Rattle.reflect_core.specs.Asked.{pending}
 use Rattle.viewer_session.specs.Record.{Entry, Took, Saw, MadeCut, Began, ToldSize, NumbersUpTo, events, choice_of}
 use Rattle.viewer_session.specs.Told.{KnowsSize}
-use Rattle.viewer_session.specs.Turn.{clipped_to, due_tile_in, host_size, is_same_size, size_at, size_for, size_if_new, told_at, told_of, update_at, update_for, began_at, record_after_cut}
+use Rattle.viewer_session.specs.Turn.{clipped_to, due_tile_in, host_size, is_same_size, size_at, size_for, size_if_new, told_at, told_of, update_at, update_for, began_at, record_after_cut_as, Chosen, with_chosen}
 
 -- It knows the size at each answer of a record.
 abbrev pub AllKnow : ℕ → ℕ → Option Size → List Update → List Entry → Type 0
@@ -61,24 +61,30 @@ knows_asked w h (Some host) us es (Some asked) area e none first is takes =
     let same : host ≡ first = cc in
     not_new (choice_of es).resizes (told_of w h es) (host_size w h host (last_size us)) none takes ∙ ap (λ (t : Size). host_size w h t (last_size us)) same
 
-know_if : (w h : ℕ) (host : Option Size) (us : List Update) (es : List Entry) (b : Bool) (found : Rect × List ℕ) → KnowsSize w h host us es → AllKnow w h host us es
-    → AllKnow w h host us (began_at (length us) (cond b (Some found) None) (MadeCut (length us) ∷ es))
-know_if w h host us es true found here k = (λ first is takes. here first is takes ∙ ap (λ vs. host_size w h first (last_size vs)) (sym (take_all (length us) us (omega arith))), k)
-know_if w h host us es false found here k = k
+know_if : (w h : ℕ) (host : Option Size) (us : List Update) (es : List Entry) (chosen : Option Chosen) (b : Bool) (found : Rect × List ℕ) → KnowsSize w h host us es → AllKnow w h host us es
+    → AllKnow w h host us (began_at (length us) (with_chosen chosen (cond b (Some found) None)) (MadeCut (length us) ∷ es))
+know_if w h host us es None true found here k = (λ first is takes. here first is takes ∙ ap (λ vs. host_size w h first (last_size vs)) (sym (take_all (length us) us (omega arith))), k)
+know_if w h host us es (Some chosen) true found here k = (λ first is takes. here first is takes ∙ ap (λ vs. host_size w h first (last_size vs)) (sym (take_all (length us) us (omega arith))), k)
+know_if w h host us es None false found here k = k
+know_if w h host us es (Some chosen) false found here k = k
 
-know_for : (form : Runs) (w h : ℕ) (host : Option Size) (us : List Update) (es : List Entry) (o : Option Rect) → size_for w h host (choice_of es).resizes (told_of w h es) (last_size us) o ≡ None → AllKnow w h host us es
-    → AllKnow w h host us (began_at (length us) (update_for form w h es us (clipped_to (told_of w h es) o)) (MadeCut (length us) ∷ es))
-know_for form w h host us es None none k = k
-know_for form w h host us es (Some area) none k =
-    know_if w h host us es (list_any (due_tile_in w h es us _) (range_with_len 0 (tile_count w h))) _ (knows_asked w h host us es (Some area) area refl none) k
+know_none : (w h : ℕ) (host : Option Size) (us : List Update) (es : List Entry) (chosen : Option Chosen) → AllKnow w h host us es → AllKnow w h host us (began_at (length us) (with_chosen chosen None) (MadeCut (length us) ∷ es))
+know_none w h host us es None k = k
+know_none w h host us es (Some chosen) k = k
 
-know_begun : (form : Runs) (w h : ℕ) (host : Option Size) (us : List Update) (es : List Entry) (o : Option Size) → size_at w h host es us ≡ o → AllKnow w h host us es
-    → AllKnow w h host us (told_at (length us) o (update_at form w h es us) (MadeCut (length us) ∷ es))
-know_begun form w h host us es None none k = know_for form w h host us es (pending (events w h es)) none k
-know_begun form w h host us es (Some size) e k = k
+know_for : (form : Runs) (w h : ℕ) (host : Option Size) (us : List Update) (es : List Entry) (chosen : Option Chosen) (o : Option Rect) → size_for w h host (choice_of es).resizes (told_of w h es) (last_size us) o ≡ None → AllKnow w h host us es
+    → AllKnow w h host us (began_at (length us) (with_chosen chosen (update_for form w h es us (clipped_to (told_of w h es) o))) (MadeCut (length us) ∷ es))
+know_for form w h host us es chosen None none k = know_none w h host us es chosen k
+know_for form w h host us es chosen (Some area) none k =
+    know_if w h host us es chosen (list_any (due_tile_in w h es us _) (range_with_len 0 (tile_count w h))) _ (knows_asked w h host us es (Some area) area refl none) k
 
-pub know_cut : (form : Runs) (w h : ℕ) (host : Option Size) (us : List Update) (es : List Entry) → AllKnow w h host us es → AllKnow w h host us (record_after_cut form w h host es us)
-know_cut form w h host us es k = know_begun form w h host us es (size_at w h host es us) refl k
+know_begun : (form : Runs) (w h : ℕ) (host : Option Size) (us : List Update) (es : List Entry) (chosen : Option Chosen) (o : Option Size) → size_at w h host es us ≡ o → AllKnow w h host us es
+    → AllKnow w h host us (told_at (length us) o (with_chosen chosen (update_at form w h es us)) (MadeCut (length us) ∷ es))
+know_begun form w h host us es chosen None none k = know_for form w h host us es chosen (pending (events w h es)) none k
+know_begun form w h host us es chosen (Some size) e k = k
+
+pub know_cut : (form : Runs) (w h : ℕ) (host : Option Size) (us : List Update) (es : List Entry) (chosen : Option Chosen) → AllKnow w h host us es → AllKnow w h host us (record_after_cut_as chosen form w h host es us)
+know_cut form w h host us es chosen k = know_begun form w h host us es chosen (size_at w h host es us) refl k
 
 pub known_behind : (w h : ℕ) (host : Option Size) (us : List Update) (later earlier : List Entry) → AllKnow w h host us (later ++ earlier) → AllKnow w h host us earlier
 known_behind w h host us [] earlier k = k

@@ -37,9 +37,11 @@ use Rattle.viewer_session.specs.Found.{answered_at, has_newer, is_newer, rings, 
 use Rattle.viewer_session.specs.Outgoing.{Sending, text_message}
 use Rattle.roles.specs.Held.{HeldStands}
 use Rattle.viewer_session.specs.Record.{Entry, MadeCut, events, format_of, choice_of, messages_in}
-use Rattle.viewer_session.specs.Turn.{asked_part, clipped_to, due_tile, due_tile_in, was_sent, all_were_sent, size_at, size_for, size_or_update, told_at, told_of, update_for, update_at, update_part, bell_at, newer_text, text_at, began_at, record_after_cut, style_of}
+use Rattle.viewer_session.specs.Turn.{asked_part, clipped_to, due_tile, due_tile_in, was_sent, all_were_sent, size_at, size_for, size_or_update, told_at, told_of, update_for, update_at, update_part, bell_at, newer_text, text_at, began_at, record_after_cut_as, style_of, Chosen, stream_after, with_chosen}
 use Rattle.viewer_session.specs.Turn as turn
-use Rattle.viewer_session.specs.Viewer.{Setup, Viewer, out_bytes, after_cut}
+use Rattle.zrle_answer.specs.Written.{has_begun}
+use Rattle.viewer_session.specs.Chosen.{MayBeChosen}
+use Rattle.viewer_session.specs.Viewer.{Setup, Viewer, out_bytes, after_cut_as}
 use Rattle.viewer_session.specs.Session.{State, Serves, Relays, Stands, Greets, Keeps, CutsAt, HasCounted, IsGreeting, at_rest, hello_of, is_greeted, is_ready, fault_in, asked_now, style_now, told_now}
 use Rattle.viewer_session.proofs.HelloLaws.{not_yet}
 use Rattle.viewer_session.proofs.SameRuns.{runs_same, all_same, any_same, no_run, not_zero}
@@ -158,7 +160,7 @@ pub record IsCutFor (st : State) (cut : cutting.Cut) (nowhere : Rect) (known : L
   pub size : IsScreenSize cut.width cut.height
   pub within : IsWithin (unwrap_or (asked_now st) nowhere) cut.width cut.height
 
-same_style : (st : State) (form : Runs) (entries : List Entry) → st.runs ≡ form → st.format ≡ format_of entries → st.choice ≡ choice_of entries → style_now st ≡ style_of form entries
+pub same_style : (st : State) (form : Runs) (entries : List Entry) → st.runs ≡ form → st.format ≡ format_of entries → st.choice ≡ choice_of entries → style_now st ≡ style_of form entries
 same_style st form entries e f g = λ i. record { runs = e i; format = f i; choice = g i }
 
 update_by : (s : Setup) (st : State) (p : Viewer) (cut : cutting.Cut) (known : List Update) (n : ℕ) (nowhere : Rect) (area : Option Rect) → Serves s st p
@@ -172,11 +174,11 @@ update_by s st p cut known n nowhere (Some area) k is ew eh hw hh size on =
 told_is : (s : Setup) (st : State) (p : Viewer) → Serves s st p → told_now st ≡ told_of s.w s.h p.entries
 told_is s st p k = λ i. unwrap_or (k.keeps.told i) (record { width = k.width i; height = k.height i })
 
-asked_is : (s : Setup) (st : State) (p : Viewer) → Serves s st p → asked_now st ≡ asked_part s.w s.h p.entries
+pub asked_is : (s : Setup) (st : State) (p : Viewer) → Serves s st p → asked_now st ≡ asked_part s.w s.h p.entries
 asked_is s st p k = ap (λ (t : Size). clipped_to t st.asked.area) (told_is s st p k) ∙ ap (clipped_to (told_of s.w s.h p.entries)) k.keeps.asked.area
 
 -- The size that a session finds at a cut is the one of the definitions.
-size_is : (s : Setup) (st : State) (p : Viewer) (last : Option Size) (us : List Update) → Serves s st p → last ≡ last_size us
+pub size_is : (s : Setup) (st : State) (p : Viewer) (last : Option Size) (us : List Update) → Serves s st p → last ≡ last_size us
     → size_for st.width st.height st.host st.choice.resizes (told_now st) last st.asked.area ≡ size_at s.w s.h s.host p.entries us
 size_is s st p last us k e = λ i. size_for (k.width i) (k.height i) (k.host i) (k.keeps.choice i).resizes (told_is s st p k i) (e i) (k.keeps.asked.area i)
 
@@ -244,8 +246,8 @@ text_there (Some number) text b e newer = text_of_newer number text (sym e ∙ n
 abbrev hello_bytes : Setup → Viewer → List ℕ
 hello_bytes s p = if p.greet then said_to_viewer s.w s.h s.name p.said else []
 
-rests_cut : (s : Setup) (us : List Update) (p : Viewer) → p ≡ at_rest p → after_cut s us p ≡ at_rest (after_cut s us p)
-rests_cut s us p e = ap (after_cut s us) e
+rests_cut : (s : Setup) (us : List Update) (chosen : Option Chosen) (p : Viewer) → p ≡ at_rest p → after_cut_as s us chosen p ≡ at_rest (after_cut_as s us chosen p)
+rests_cut s us chosen p e = ap (after_cut_as s us chosen) e
 
 drop_at : (xs ys : List ℕ) (n : ℕ) → n ≡ length xs → drop n (xs ++ ys) ≡ ys
 drop_at xs ys n e = ap (λ k. drop k (xs ++ ys)) e ∙ drop-append_seam xs ys
@@ -288,21 +290,23 @@ greeting_done None out now done k = tt
 greeting_done (Some g) out now done k =
     record { short = k.short; said = λ wants. absurd (let open_ : is_some (whole_of (ahead g)) ≡ false = not_yet (ahead g) wants in cc) }
 
-serves_cut : (s : Setup) (st : State) (p : Viewer) (us : List Update) (told : Option Size) (wanted : Wanted) (have : SentTiles) (cut : cutting.Cut) (piece bytes : List ℕ) → Serves s st p → is_ready st ≡ true
-    → turn.sent_at s.runs s.w s.h s.host p.entries us ≡ bytes → Keeps s.w s.h (record st { told = told; asked = wanted; have = have; cut = cut; piece = piece; unsent = bytes }) (record_after_cut s.runs s.w s.h s.host p.entries us)
-    → Serves s (record st { told = told; asked = wanted; have = have; cut = cut; piece = piece; unsent = bytes }) (after_cut s us p)
-serves_cut s st p us told wanted have cut piece bytes k ready e keeps =
+serves_cut : (s : Setup) (st : State) (p : Viewer) (us : List Update) (chosen : Option Chosen) (told : Option Size) (wanted : Wanted) (have : SentTiles) (cut : cutting.Cut) (piece bytes : List ℕ) (begun : Bool) → Serves s st p → is_ready st ≡ true
+    → turn.sent_as chosen s.runs s.w s.h s.host p.entries us ≡ bytes → begun ≡ has_begun (stream_after chosen p.stream)
+    → Keeps s.w s.h (record st { told = told; asked = wanted; have = have; cut = cut; piece = piece; unsent = bytes; begun = begun }) (record_after_cut_as chosen s.runs s.w s.h s.host p.entries us)
+    → Serves s (record st { told = told; asked = wanted; have = have; cut = cut; piece = piece; unsent = bytes; begun = begun }) (after_cut_as s us chosen p)
+serves_cut s st p us chosen told wanted have cut piece bytes begun k ready e streams keeps =
     let none : length st.unsent ≡ 0 = sent_all st ready in
-    let sent : List ℕ = turn.sent_at s.runs s.w s.h s.host p.entries us in
+    let sent : List ℕ = turn.sent_as chosen s.runs s.w s.h s.host p.entries us in
     let over : length (drop p.written (out_bytes s p)) ≡ 0 = ap length (sym k.unsent) ∙ none in
-    let out : out_bytes s (after_cut s us p) ≡ out_bytes s p ++ sent = sym (append_assoc (hello_bytes s p) p.said_after sent) in
+    let out : out_bytes s (after_cut_as s us chosen p) ≡ out_bytes s p ++ sent = sym (append_assoc (hello_bytes s p) p.said_after sent) in
     record {
       width = k.width;
       height = k.height;
       runs = k.runs;
       host = k.host;
+      zrle = k.zrle;
       role = k.role;
-      rests = rests_cut s us p k.rests;
+      rests = rests_cut s us chosen p k.rests;
       greets = greets_cut s st.greeting p.greet p.hello p.said p.said_after (p.said_after ++ sent) (greeted_ready st ready) k.greets;
       reading = k.reading;
       taken = k.taken;
@@ -310,6 +314,7 @@ serves_cut s st p us told wanted have cut piece bytes k ready e keeps =
       keeps = keeps;
       written = omega (arith, k.written, ap length out, length-append (out_bytes s p) sent);
       unsent = sym (ap (drop p.written) out ∙ (drop_said p.written (out_bytes s p) sent k.written over ∙ e));
+      begun = streams;
     }
 
 -- No message is taken by it.
@@ -318,13 +323,13 @@ messages_began n (Some size) found entries = refl
 messages_began n None None entries = refl
 messages_began n None (Some found) entries = refl
 
-relays_cut : (s : Setup) (st : State) (p : Viewer) (us : List Update) (told : Option Size) (wanted : Wanted) (have : SentTiles) (cut : cutting.Cut) (piece bytes : List ℕ) → Relays st p
-    → Relays (record st { told = told; asked = wanted; have = have; cut = cut; piece = piece; unsent = bytes }) (after_cut s us p)
-relays_cut s st p us told wanted have cut piece bytes k =
+relays_cut : (s : Setup) (st : State) (p : Viewer) (us : List Update) (chosen : Option Chosen) (told : Option Size) (wanted : Wanted) (have : SentTiles) (cut : cutting.Cut) (piece bytes : List ℕ) (begun : Bool) → Relays st p
+    → Relays (record st { told = told; asked = wanted; have = have; cut = cut; piece = piece; unsent = bytes; begun = begun }) (after_cut_as s us chosen p)
+relays_cut s st p us chosen told wanted have cut piece bytes begun k =
     record {
       waiting = k.waiting;
       keys = k.keys;
-      held = subst (λ ms. HeldStands st.role st.held ms) (sym (messages_began (length us) (size_at s.w s.h s.host p.entries us) (update_at s.runs s.w s.h p.entries us) p.entries)) k.held;
+      held = subst (λ ms. HeldStands st.role st.held ms) (sym (messages_began (length us) (size_at s.w s.h s.host p.entries us) (with_chosen chosen (update_at s.runs s.w s.h p.entries us)) p.entries)) k.held;
     }
 
 -- ---- the record after it
@@ -344,12 +349,12 @@ choice_began n (Some size) found entries = refl
 choice_began n None None entries = refl
 choice_began n None (Some found) entries = refl
 
-keeps_cut : (w h n : ℕ) (st : State) (entries : List Entry) (size : Option Size) (found : Option (Rect × List ℕ)) (told : Option Size) (wanted : Wanted) (have : SentTiles) (cut : cutting.Cut) (piece bytes : List ℕ) → Keeps w h st entries
+keeps_cut : (w h n : ℕ) (st : State) (entries : List Entry) (size : Option Size) (found : Option (Rect × List ℕ)) (told : Option Size) (wanted : Wanted) (have : SentTiles) (cut : cutting.Cut) (piece bytes : List ℕ) (begun : Bool) → Keeps w h st entries
     → ((es : List Event) → told_last es ≡ st.told → told_last (told_or_answered n size found es) ≡ told)
     → ((es : List Event) → AskedStands st.asked es → AskedStands wanted (told_or_answered n size found (WasCut n ∷ es)))
     → ((es : List Event) → told_last es ≡ st.told → HaveStands st.have es → HaveStands have (told_or_answered n size found es))
-    → Keeps w h (record st { told = told; asked = wanted; have = have; cut = cut; piece = piece; unsent = bytes }) (told_at n size found (MadeCut n ∷ entries))
-keeps_cut w h n st entries size found told wanted have cut piece bytes k tells asked has =
+    → Keeps w h (record st { told = told; asked = wanted; have = have; cut = cut; piece = piece; unsent = bytes; begun = begun }) (told_at n size found (MadeCut n ∷ entries))
+keeps_cut w h n st entries size found told wanted have cut piece bytes begun k tells asked has =
     let es : List Event = events w h entries in
     let now : events w h (told_at n size found (MadeCut n ∷ entries)) ≡ told_or_answered n size found (WasCut n ∷ es) = events_began w h n size found (MadeCut n ∷ entries) in
     record {
@@ -360,7 +365,23 @@ keeps_cut w h n st entries size found told wanted have cut piece bytes k tells a
       told = sym (ap told_last now ∙ tells (WasCut n ∷ es) (sym k.told));
     }
 
+-- What bytes an answer has makes no difference to what a state keeps.
+keeps_chosen : (w h n : ℕ) (st : State) (entries : List Entry) (size : Option Size) (found : Option (Rect × List ℕ)) (chosen : Option Chosen) → Keeps w h st (told_at n size found entries) → Keeps w h st (told_at n size (with_chosen chosen found) entries)
+keeps_chosen w h n st entries (Some size) found chosen k = k
+keeps_chosen w h n st entries None found None k = k
+keeps_chosen w h n st entries None None (Some chosen) k = k
+keeps_chosen w h n st entries None (Some found) (Some chosen) k =
+    record { asked = k.asked; have = record { each = k.have.each }; format = k.format; choice = k.choice; told = k.told }
+
 -- ---- all of it
+
+-- What is sent of an update at a cut, where the definitions find this one; and how that leads the viewer's zlib stream
+-- on.
+pub record Sends (s : Setup) (us : List Update) (p : Viewer) (here : Option (Rect × List ℕ)) (size : Option Size) (begun : Bool) (update : List ℕ) : Type 0 where
+  pub chosen : Option Chosen
+  pub may_be : MayBeChosen s us p.entries p.stream chosen
+  pub bytes : update ≡ size_or_update size (with_chosen chosen here)
+  pub streams : begun ≡ has_begun (stream_after chosen p.stream)
 
 count_taken : (n : ℕ) (us : List Update) → n ≤ length us → length (take n us) ≡ n
 count_taken n us le = omega (arith, length-take n us)
@@ -368,25 +389,25 @@ count_taken n us le = omega (arith, length-take n us)
 last_is : (n number : ℕ) (o : Option ℕ) → o ≡ Some n → o ≡ Some number → n ≡ number
 last_is n number o e f = cc
 
-tells : (s : Setup) (es : List Entry) (us : List Update)
-    → turn.sent_at s.runs s.w s.h s.host es us
-    ≡ bell_at us (last_cut (events s.w s.h es)) ++ (text_at us (last_cut (events s.w s.h es)) ++ size_or_update (size_at s.w s.h s.host es us) (update_at s.runs s.w s.h es us))
-tells s es us =
-    append_assoc (bell_at us (last_cut (events s.w s.h es))) (text_at us (last_cut (events s.w s.h es))) (size_or_update (size_at s.w s.h s.host es us) (update_at s.runs s.w s.h es us))
+tells : (s : Setup) (es : List Entry) (us : List Update) (chosen : Option Chosen)
+    → turn.sent_as chosen s.runs s.w s.h s.host es us
+    ≡ bell_at us (last_cut (events s.w s.h es)) ++ (text_at us (last_cut (events s.w s.h es)) ++ size_or_update (size_at s.w s.h s.host es us) (with_chosen chosen (update_at s.runs s.w s.h es us)))
+tells s es us chosen =
+    append_assoc (bell_at us (last_cut (events s.w s.h es))) (text_at us (last_cut (events s.w s.h es))) (size_or_update (size_at s.w s.h s.host es us) (with_chosen chosen (update_at s.runs s.w s.h es us)))
 
 -- A cut, and what of it begins to be sent.
-pub turned : {S : Type 0} (cuts : S → ℕ → S → Type 0) (before after : S) (st now : State) (known : List Update) (least most n : ℕ) (cut : cutting.Cut) (nowhere : Rect) (size told : Option Size) (wanted : Wanted) (have : SentTiles) (bell text : Bool) (update piece bytes : List ℕ)
+pub turned : {S : Type 0} (cuts : S → ℕ → S → Type 0) (before after : S) (st now : State) (known : List Update) (least most n : ℕ) (cut : cutting.Cut) (nowhere : Rect) (size told : Option Size) (wanted : Wanted) (have : SentTiles) (bell text : Bool) (update piece bytes : List ℕ) (begun : Bool)
     → cuts before n after → st ≡ now → is_ready now ≡ true → IsCutFor st cut nowhere known n → (least ≤ n) × (n ≤ most)
     → bell ≡ rings st.asked.last st.cut.bells cut.bells → text ≡ has_newer st.asked.last cut.text
     → size ≡ size_for st.width st.height st.host st.choice.resizes (told_now st) cut.host_size st.asked.area
-    → update ≡ size_or_update size (update_in (style_now st) cut (asked_now st))
+    → ((s : Setup) (p : Viewer) → Serves s st p → Sends s (take n known) p (update_in (style_now st) cut (asked_now st)) size begun update)
     → wanted.last ≡ Some n
     → ((es : List Event) → told_last es ≡ st.told → told_last (told_or_answered n size (update_in (style_now st) cut (asked_now st)) es) ≡ told)
     → ((es : List Event) → AskedStands st.asked es → AskedStands wanted (told_or_answered n size (update_in (style_now st) cut (asked_now st)) (WasCut n ∷ es)))
     → ((es : List Event) → told_last es ≡ st.told → HaveStands st.have es → HaveStands have (told_or_answered n size (update_in (style_now st) cut (asked_now st)) es))
     → bytes ≡ (if bell then bell_bytes else []) ++ ((if text then text_message cut.text else []) ++ update)
-    → CutsAt cuts before after now (record st { told = told; asked = wanted; have = have; cut = cut; piece = piece; unsent = bytes }) known least most
-turned cuts before after st now known least most n cut nowhere size told wanted have bell text update piece bytes was same ready c fresh rung newer sized found last says asked has e =
+    → CutsAt cuts before after now (record st { told = told; asked = wanted; have = have; cut = cut; piece = piece; unsent = bytes; begun = begun }) known least most
+turned cuts before after st now known least most n cut nowhere size told wanted have bell text update piece bytes begun was same ready c fresh rung newer sized sends last says asked has e =
     let us : List Update = take n known in
     let here : Option (Rect × List ℕ) = update_in (style_now st) cut (asked_now st) in
     record {
@@ -403,26 +424,33 @@ turned cuts before after st now known least most n cut nowhere size told wanted 
           let count : length us ≡ n = count_taken n known c.is.known in
           let update_there : here ≡ update_at s.runs s.w s.h p.entries us = update_is s st p cut known n nowhere k c in
           let size_there : size ≡ size_at s.w s.h s.host p.entries us = sized ∙ size_is s st p cut.host_size us k c.is.size in
-          let both_there : size_or_update size here ≡ size_or_update (size_at s.w s.h s.host p.entries us) (update_at s.runs s.w s.h p.entries us) =
-          ap (λ o. size_or_update o here) size_there ∙ ap (size_or_update (size_at s.w s.h s.host p.entries us)) update_there in
+          let sent : Sends s us p here size begun update = sends s p k in
+          let chosen : Option Chosen = sent.chosen in
+          let both_there : size_or_update size (with_chosen chosen here) ≡ size_or_update (size_at s.w s.h s.host p.entries us) (with_chosen chosen (update_at s.runs s.w s.h p.entries us)) =
+          ap (λ o. size_or_update o (with_chosen chosen here)) size_there ∙ ap (λ o. size_or_update (size_at s.w s.h s.host p.entries us) (with_chosen chosen o)) update_there in
           let last_there : st.asked.last ≡ last_cut (events s.w s.h p.entries) = k.keeps.asked.last in
           let bells_there : (if bell then bell_bytes else []) ≡ bell_at us (last_cut (events s.w s.h p.entries)) =
           ap (λ b. if b then bell_bytes else []) rung ∙ (bell_is st.asked.last st.cut.bells cut.bells known n c.is.bells known_bells ∙ ap (bell_at us) last_there) in
           let text_there : (if text then text_message cut.text else []) ≡ text_at us (last_cut (events s.w s.h p.entries)) =
           ap (λ b. if b then text_message cut.text else []) newer ∙ (text_is st.asked.last cut.text us c.is.text ∙ ap (text_at us) last_there) in
-          let bytes_there : bytes ≡ turn.sent_at s.runs s.w s.h s.host p.entries us =
+          let bytes_there : bytes ≡ turn.sent_as chosen s.runs s.w s.h s.host p.entries us =
           e
           ∙ (ap (λ t. t ++ ((if text then text_message cut.text else []) ++ update)) bells_there
           ∙ (ap (λ t. bell_at us (last_cut (events s.w s.h p.entries)) ++ (t ++ update)) text_there
-          ∙ (ap (λ t. bell_at us (last_cut (events s.w s.h p.entries)) ++ (text_at us (last_cut (events s.w s.h p.entries)) ++ t)) (found ∙ both_there) ∙ sym (tells s p.entries us)))) in
-          let kept : Keeps s.w s.h (record st { told = told; asked = wanted; have = have; cut = cut; piece = piece; unsent = bytes }) (told_at n size here (MadeCut n ∷ p.entries)) =
-          keeps_cut s.w s.h n st p.entries size here told wanted have cut piece bytes k.keeps says asked has in
-          let record_is : told_at n size here (MadeCut n ∷ p.entries) ≡ record_after_cut s.runs s.w s.h s.host p.entries us =
-          ap (λ o. told_at n o here (MadeCut n ∷ p.entries)) size_there
-          ∙ (ap (λ u. told_at n (size_at s.w s.h s.host p.entries us) u (MadeCut n ∷ p.entries)) update_there
-          ∙ ap (λ m. told_at m (size_at s.w s.h s.host p.entries us) (update_at s.runs s.w s.h p.entries us) (MadeCut m ∷ p.entries)) (sym count)) in
+          ∙ (ap (λ t. bell_at us (last_cut (events s.w s.h p.entries)) ++ (text_at us (last_cut (events s.w s.h p.entries)) ++ t)) (sent.bytes ∙ both_there) ∙ sym (tells s p.entries us chosen)))) in
+          let new : State = record st { told = told; asked = wanted; have = have; cut = cut; piece = piece; unsent = bytes; begun = begun } in
+          let kept : Keeps s.w s.h new (told_at n size (with_chosen chosen here) (MadeCut n ∷ p.entries)) =
+          keeps_chosen s.w s.h n new (MadeCut n ∷ p.entries) size here chosen (keeps_cut s.w s.h n st p.entries size here told wanted have cut piece bytes begun k.keeps says asked has) in
+          let record_is : told_at n size (with_chosen chosen here) (MadeCut n ∷ p.entries) ≡ record_after_cut_as chosen s.runs s.w s.h s.host p.entries us =
+          ap (λ o. told_at n o (with_chosen chosen here) (MadeCut n ∷ p.entries)) size_there
+          ∙ (ap (λ u. told_at n (size_at s.w s.h s.host p.entries us) (with_chosen chosen u) (MadeCut n ∷ p.entries)) update_there
+          ∙ ap (λ m. told_at m (size_at s.w s.h s.host p.entries us) (with_chosen chosen (update_at s.runs s.w s.h p.entries us)) (MadeCut m ∷ p.entries)) (sym count)) in
           record {
-            serves = serves_cut s st p us told wanted have cut piece bytes k (ap is_ready same ∙ ready) (sym bytes_there) (subst (λ (l : List Entry). Keeps s.w s.h (record st { told = told; asked = wanted; have = have; cut = cut; piece = piece; unsent = bytes }) l) record_is kept);
-            relays = relays_cut s st p us told wanted have cut piece bytes both.relays;
+            chosen = chosen;
+            may_be = sent.may_be;
+            stands = record {
+              serves = serves_cut s st p us chosen told wanted have cut piece bytes begun k (ap is_ready same ∙ ready) (sym bytes_there) sent.streams (subst (λ (l : List Entry). Keeps s.w s.h new l) record_is kept);
+              relays = relays_cut s st p us chosen told wanted have cut piece bytes begun both.relays;
+            };
           };
     }

@@ -33,23 +33,23 @@ bgr233 =
     }
 
 abbrev rre : Entry
-rre = Took (SetEncodings (record { kind = Rre; copy = false; resizes = false }))
+rre = Took (SetEncodings (record { kind = Rre; copy = false; resizes = false; zrle = false }))
 
 abbrev hextile_and_copies : Entry
-hextile_and_copies = Took (SetEncodings (record { kind = Hextile; copy = true; resizes = false }))
+hextile_and_copies = Took (SetEncodings (record { kind = Hextile; copy = true; resizes = false; zrle = false }))
 
 abbrev asks : Bool → ℕ → ℕ → Entry
 asks incremental w h = Took (Ask incremental (rect 0 0 w h))
 
 -- ---- the latest list and the latest format
 
-pub latest_list_counts : choice_of (MadeCut 1 ∷ rre ∷ Saw 1 ∷ hextile_and_copies ∷ []) ≡ record { kind = Rre; copy = false; resizes = false }
+pub latest_list_counts : choice_of (MadeCut 1 ∷ rre ∷ Saw 1 ∷ hextile_and_copies ∷ []) ≡ record { kind = Rre; copy = false; resizes = false; zrle = false }
 latest_list_counts = refl
 
-pub list_before_it : choice_of (MadeCut 1 ∷ hextile_and_copies ∷ rre ∷ []) ≡ record { kind = Hextile; copy = true; resizes = false }
+pub list_before_it : choice_of (MadeCut 1 ∷ hextile_and_copies ∷ rre ∷ []) ≡ record { kind = Hextile; copy = true; resizes = false; zrle = false }
 list_before_it = refl
 
-pub no_list_yet : choice_of (Took (Key true 0x61) ∷ Saw 0 ∷ []) ≡ record { kind = Raw; copy = false; resizes = false }
+pub no_list_yet : choice_of (Took (Key true 0x61) ∷ Saw 0 ∷ []) ≡ record { kind = Raw; copy = false; resizes = false; zrle = false }
 no_list_yet = refl
 
 pub latest_format_counts : format_of (rre ∷ Took (SetPixelFormat bgr233) ∷ Took (SetPixelFormat host_format) ∷ []) ≡ bgr233
@@ -205,7 +205,7 @@ abbrev size : ℕ → ℕ → Size
 size w h = record { width = w; height = h }
 
 abbrev takes_sizes : Entry
-takes_sizes = Took (SetEncodings (record { kind = Raw; copy = false; resizes = true }))
+takes_sizes = Took (SetEncodings (record { kind = Raw; copy = false; resizes = true; zrle = false }))
 
 -- A host's screen of 1 by 1 in a room of 2 by 1: an update of one rectangle from the top left, in encoding -223.
 abbrev tells_one : List ℕ

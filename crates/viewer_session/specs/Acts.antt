@@ -7,24 +7,30 @@ use Rattle.roles.specs.Allowed.{Input, allowed}
 use Rattle.roles.specs.Held.{Kept, HeldStands, left_in}
 use Rattle.reflect_core.specs.Sequential.{Begins}
 use Rattle.viewer_session.specs.Record.{before_last, messages_in}
+use Rattle.viewer_session.specs.Turn.{Chosen}
 use Rattle.viewer_session.specs.Session.{State, Stands, after_look, after_writing, with_marks, without_input}
-use Rattle.viewer_session.specs.Viewer.{Setup, Viewer, after_bytes, after_cut, new_viewer}
+use Rattle.viewer_session.specs.Viewer.{Setup, Viewer, after_bytes, after_cut_as, new_viewer}
+
+-- The cut of a turn: its number, and what the session chose of its answer, if it did.
+pub record Cutting : Type 0 where
+  pub number : ℕ
+  pub chosen : Option Chosen
 
 -- What is done for a viewer: bytes of it come, with a mark for each text that becomes whole in them; it has a turn,
--- with the reply of its look and, where it is cut, the number of the cut; this many more bytes of its hello and answers
+-- with the reply of its look and, where it is cut, the cut; this many more bytes of its hello and answers
 -- are written; its input that waits is handed out.
 pub data Act : Type 0 where
   Bytes : (marks : List Bool) → (bytes : List ℕ) → Act
-  Turn : (looked : ℕ) → (cut : Option ℕ) → Act
+  Turn : (looked : ℕ) → (cut : Option Cutting) → Act
   Written : (count : ℕ) → Act
   Passed : Act
 
 -- A list of acts has the latest first.
 
 -- What a turn makes of a viewer, where these are the updates: a cut takes the first of them.
-abbrev pub after_turn : Setup → List Update → (looked : ℕ) → Option ℕ → Viewer → Viewer
+abbrev pub after_turn : Setup → List Update → (looked : ℕ) → Option Cutting → Viewer → Viewer
 after_turn s us looked None p = after_look looked p
-after_turn s us looked (Some n) p = after_cut s (take n us) (after_look looked p)
+after_turn s us looked (Some cut) p = after_cut_as s (take cut.number us) cut.chosen (after_look looked p)
 
 -- What an act makes of a viewer.
 abbrev pub after_act : Setup → List Update → Act → Viewer → Viewer

@@ -1,5 +1,5 @@
 -- What a session finds in a cut: what is news to its viewer, and an update.
-use Rattle.std.specs.Prelude.{ℕ, Bool, false, ◌==◌, nat_lt, if◌then◌else◌, List, ◌∷◌, length, Option, Some, None}
+use Rattle.std.specs.Prelude.{◌≡◌, ℕ, Bool, true, false, ◌==◌, ◌&&◌, nat_lt, if◌then◌else◌, is_some, List, [], ◌∷◌, ◌++◌, length, Option, Some, None}
 use Rattle.raster.specs.declared.rect.Rect.{Rect}
 use Rattle.raster.specs.declared.size.Size.{Size}
 use Rattle.raster.specs.Update.{NumberedText}
@@ -7,8 +7,13 @@ use Rattle.tiles.specs.Touched.{Event, Answered, NewSize, runs}
 use Rattle.reflect_core.specs.declared.cut.Cut.{Cut}
 use Rattle.update_encoder.specs.Answer.{answer_bytes}
 use Rattle.reflect_core.specs.Source.{marked}
-use Rattle.update_encoder.specs.Coming.{shown}
+use Rattle.rfb_wire.specs.Writing.{update_head_bytes}
+use Rattle.update_encoder.specs.Coming.{Answering, coming, shown}
 use Rattle.update_encoder.specs.Style.{Style}
+use Rattle.zrle_answer.specs.Written.{IsWholeOf}
+use Rattle.viewer_session.specs.Session.{State, style_now}
+use Rattle.viewer_session.specs.declared.update.Update.{Update}
+use Rattle.viewer_session.specs.declared.update.Update.TheVariants.{Runs, Whole}
 
 -- Bells have become more since the last cut, if there was one.
 abbrev pub rings : Option ℕ → (before now : ℕ) → Bool
@@ -46,3 +51,20 @@ answered_at number (Some found) es = Answered found.0 number ∷ es
 abbrev pub told_or_answered : ℕ → Option Size → Option (Rect × List ℕ) → List Event → List Event
 told_or_answered number None found es = answered_at number found es
 told_or_answered number (Some size) found es = NewSize size ∷ es
+
+-- The bytes of an answer that is begun, where one is (7.6.1).
+abbrev pub begun_bytes : Option Answering → Cut → List ℕ
+begun_bytes None cut = []
+begun_bytes (Some answer) cut = update_head_bytes answer.count ++ coming answer cut
+
+-- The viewer may be answered in ZRLE and would rather be, and these bytes are a whole answer for the area at the last
+-- cut.
+pub record IsWholeAnswer (st : State) (begun : Bool) (area : Rect) (bytes : List ℕ) : Type 0 where
+  pub heeded : (st.zrle && st.choice.zrle) ≡ true
+  pub whole : IsWholeOf (style_now st) st.cut area st.begun begun bytes
+
+-- An answer that was begun is sent as it was begun; or, where it was written whole, so.
+abbrev pub IsSentAs : State → (begun : Bool) → Option Rect → Option Answering → Option Update → Type 0
+IsSentAs st begun area answer None = (answer ≡ None) × (begun ≡ st.begun)
+IsSentAs st begun area answer (Some (Runs other)) = (answer ≡ Some other) × (begun ≡ st.begun)
+IsSentAs st begun area answer (Some (Whole bytes)) = (is_some answer ≡ true) × ((where_ : Rect) × (area ≡ Some where_) × IsWholeAnswer st begun where_ bytes)

@@ -4,7 +4,9 @@ use Rattle.raster.specs.declared.size.Size.{Size}
 use Rattle.raster.specs.Update.{NumberedText}
 use Rattle.rfb_wire.specs.Writing.{server_text_bytes, size_bytes, update_head_bytes}
 use Rattle.reflect_core.specs.declared.cut.Cut.{Cut}
-use Rattle.update_encoder.specs.Coming.{Answering, AnswerStands, coming}
+use Rattle.update_encoder.specs.Coming.{AnswerStands, coming}
+use Rattle.viewer_session.specs.declared.update.Update.{Update}
+use Rattle.viewer_session.specs.declared.update.Update.TheVariants.{Runs, Whole}
 use Rattle.viewer_session.specs.declared.coming.Coming as declared
 use Rattle.raster.specs.declared.tile.TheConstants.{TILE_SIDE}
 
@@ -24,10 +26,17 @@ abbrev pub text_message : Option NumberedText → List ℕ
 text_message None = []
 text_message (Some last) = server_text_bytes last.text
 
--- What is still to come of an answer: its header, unless that was put out already, and its rectangles (7.6.1).
-abbrev pub answer_coming : Bool → Option Answering → Cut → List ℕ
+-- What is still to come of an answer: its header, unless that was put out already, and its rectangles (7.6.1); or all
+-- that is left of one that was written whole.
+abbrev pub answer_coming : Bool → Option Update → Cut → List ℕ
 answer_coming head None cut = []
-answer_coming head (Some answer) cut = (if head then update_head_bytes answer.count else []) ++ coming answer cut
+answer_coming head (Some (Runs answer)) cut = (if head then update_head_bytes answer.count else []) ++ coming answer cut
+answer_coming head (Some (Whole left)) cut = left
+
+-- It is an answer that was begun at this cut, or was written whole.
+abbrev pub IsUpdateOf : Cut → Update → Type 0
+IsUpdateOf cut (Runs answer) = AnswerStands answer cut
+IsUpdateOf cut (Whole left) = Unit {0}
 
 -- The bytes that tell a size, where one is to be told, before these.
 abbrev pub size_and : Option Size → List ℕ → List ℕ
@@ -47,7 +56,7 @@ pub record IsSmall (size : Size) : Type 0 where
 pub record IsOf (c : declared.Coming) (cut : Cut) : Type 0 where
   pub text : c.text ≡ true → is_some cut.text ≡ true
   pub size : IfSome c.size IsSmall
-  pub answer : IfSome c.answer (λ answer. AnswerStands answer cut)
+  pub answer : IfSome c.answer (IsUpdateOf cut)
 
 -- ---- what contracts see of it
 

@@ -25,20 +25,23 @@ use Rattle.reflect_core.specs.declared.cut.Cut.{Cut}
 use Rattle.update_encoder.specs.Style.{Style}
 use Rattle.viewer_session.specs.Outgoing.{Sending}
 use Rattle.viewer_session.specs.Record.{Entry, Took, Saw, events, format_of, choice_of, messages_in}
-use Rattle.viewer_session.specs.Turn.{clipped_to, size_for}
+use Rattle.zrle_answer.specs.Written.{has_begun}
+use Rattle.viewer_session.specs.Chosen.{MayBeChosen}
+use Rattle.viewer_session.specs.Turn.{Chosen, clipped_to, size_for}
 use Rattle.viewer_session.specs.Viewer as viewer
-use Rattle.viewer_session.specs.Viewer.{Setup, Viewer, out_bytes, new_viewer, with_input, after_bytes, after_cut}
+use Rattle.viewer_session.specs.Viewer.{Setup, Viewer, out_bytes, new_viewer, with_input, after_bytes, after_cut_as}
 
 -- The size of the screen, the form in which the viewer is answered, the size of the host's screen at first where the
--- viewer is told of sizes, its role, its hello where it has one, what has come of its next message, the pixel format
+-- viewer is told of sizes, whether it may be answered in ZRLE, its role, its hello where it has one, what has come of its next message, the pixel format
 -- and the choice of encodings that hold, the size that it was told after its hello, what it has asked for, what it has
--- of each tile, the last cut, the piece that is sent next, all unsent bytes for it, what it holds down, and its input
--- that waits.
+-- of each tile, the last cut, the piece that is sent next, all unsent bytes for it, what it holds down, its input that
+-- waits, and whether its zlib stream has begun.
 pub record State : Type 0 where
   pub width : ℕ
   pub height : ℕ
   pub runs : Runs
   pub host : Option Size
+  pub zrle : Bool
   pub role : Role
   pub greeting : Option Greeting
   pub reader : ClientReader
@@ -52,6 +55,7 @@ pub record State : Type 0 where
   pub unsent : List ℕ
   pub held : Kept
   pub waiting : Option Input
+  pub begun : Bool
 
 -- How the hello goes on. A session that begins after it has none, and takes it as done.
 abbrev pub hello_of : Option Greeting → Reading (Unit {0})
@@ -157,6 +161,7 @@ pub record Serves (s : Setup) (st : State) (p : Viewer) : Type 0 where
   pub height : st.height ≡ s.h
   pub runs : st.runs ≡ s.runs
   pub host : st.host ≡ s.host
+  pub zrle : st.zrle ≡ s.zrle
   pub role : p.role ≡ st.role
   pub rests : p ≡ at_rest p
   pub greets : Greets s st.greeting p.greet p.hello p.said p.said_after
@@ -167,6 +172,7 @@ pub record Serves (s : Setup) (st : State) (p : Viewer) : Type 0 where
   pub keeps : Keeps s.w s.h st p.entries
   pub written : p.written ≤ length (out_bytes s p)
   pub unsent : st.unsent ≡ drop p.written (out_bytes s p)
+  pub begun : st.begun ≡ has_begun p.stream
 
 -- The input that waits is the viewer's, and what is held down stands for the messages taken.
 pub record Relays (st : State) (p : Viewer) : Type 0 where
@@ -306,6 +312,12 @@ wants_cut wanted looked = nat_lt (unwrap_or wanted.last 0) looked || (is_some wa
 abbrev pub HasCounted : State → List Update → Type 0
 HasCounted st us = (number : ℕ) → st.asked.last ≡ Some number → (number ≤ length us) × (st.cut.bells ≡ bells (take number us))
 
+-- The state stands for what a cut of these updates makes of a viewer, with an answer whose bytes may be chosen so.
+pub record IsCut (s : Setup) (st : State) (us : List Update) (p : Viewer) : Type 0 where
+  pub chosen : Option Chosen
+  pub may_be : MayBeChosen s us p.entries p.stream chosen
+  pub stands : Stands s st (after_cut_as s us chosen p)
+
 -- The source was cut once, at this number (cuts): at least least, at most most, and at most as many as the updates that
 -- the source knows. The new state stands for what the cut makes of each viewer for which the old one stood, where the
 -- cut before it was one of this source.
@@ -316,7 +328,7 @@ pub record CutsAt {S : Type 0} (cuts : S → ℕ → S → Type 0) (before after
   pub fresh : least ≤ number
   pub bounded : number ≤ most
   pub counted : HasCounted new us
-  pub stands : (s : Setup) (p : Viewer) → HasCounted old us → Stands s old p → Stands s new (after_cut s (take number us) p)
+  pub stands : (s : Setup) (p : Viewer) → HasCounted old us → Stands s old p → IsCut s new (take number us) p
 
 -- The source was looked at once, with a reply that is the source's own (looks) and at most the number of its updates.
 -- Where there was reason it was then cut once, at a number that is at least the reply; otherwise it was left alone.

@@ -11,10 +11,12 @@ use Rattle.roles.specs.declared.role.Role.{Role}
 use Rattle.roles.specs.Allowed.{Input, passes, keys_after}
 use Rattle.roles.specs.Held.{input_for}
 use Rattle.viewer_session.specs.Record.{Entry, Took}
-use Rattle.viewer_session.specs.Turn.{sent_at, record_after_cut}
+use Rattle.zrle_answer.specs.Rectangle.{ZlibStream}
+use Rattle.viewer_session.specs.Turn.{Chosen, sent_as, stream_after, record_after_cut_as}
 
 -- A screen of w by h with a name, room for this many inputs in the queue to the host, the form in which viewers are
--- answered, and, where they are told of the sizes of the host's screen, the size that this has at first.
+-- answered, where they are told of the sizes of the host's screen the size that this has at first, and whether those
+-- that would rather have ZRLE may be answered in it.
 pub record Setup : Type 0 where
   pub w : ℕ
   pub h : ℕ
@@ -22,6 +24,7 @@ pub record Setup : Type 0 where
   pub room : ℕ
   pub runs : Runs
   pub host : Option Size
+  pub zrle : Bool
 
 -- One viewer, from the moment at which it joins.
 pub record Viewer : Type 0 where
@@ -38,6 +41,7 @@ pub record Viewer : Type 0 where
   pub looked : Option ℕ  -- the reply to its last step, where that was a look
   pub said_after : List ℕ  -- what it is sent after its hello
   pub written : ℕ  -- how many bytes of hello and answers were written
+  pub stream : ZlibStream  -- the state of its zlib stream after all answers
 
 -- ---- what a viewer's bytes make of it
 
@@ -111,6 +115,7 @@ new_viewer role greet =
       looked = None;
       said_after = [];
       written = 0;
+      stream = None;
     }
 
 -- ---- a turn
@@ -119,11 +124,17 @@ new_viewer role greet =
 abbrev pub may_look : Setup → Viewer → Bool
 may_look s p = nat_le (length (out_bytes s p)) p.written && (is_greeted p && is_none (viewer_fault p))
 
--- What a cut of these updates makes of a viewer: more to be sent, and more in its record.
-abbrev pub after_cut : Setup → List Update → Viewer → Viewer
-after_cut s us p =
+-- What a cut of these updates makes of a viewer: more to be sent, and more in its record. Where its session chose the
+-- bytes of an answer, these are sent.
+abbrev pub after_cut_as : Setup → List Update → Option Chosen → Viewer → Viewer
+after_cut_as s us chosen p =
     record p {
       looked = None;
-      said_after = p.said_after ++ sent_at s.runs s.w s.h s.host p.entries us;
-      entries = record_after_cut s.runs s.w s.h s.host p.entries us;
+      said_after = p.said_after ++ sent_as chosen s.runs s.w s.h s.host p.entries us;
+      entries = record_after_cut_as chosen s.runs s.w s.h s.host p.entries us;
+      stream = stream_after chosen p.stream;
     }
+
+-- The same, where its session chose none.
+abbrev pub after_cut : Setup → List Update → Viewer → Viewer
+after_cut s us p = after_cut_as s us None p

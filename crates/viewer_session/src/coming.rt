@@ -5,12 +5,12 @@ ghost use Rattle.raster.specs.declared.tile.TheConstants.{TILE_SIDE};
 ghost use Rattle.viewer_session.specs.Outgoing.{IsOf, all_coming, answer_coming, longest_piece, size_and};
 
 use crate::piece::Piece;
+use crate::update::Update;
 use raster::Size;
 use reflect_core::Cut;
-use update_encoder::Answer;
 
 /// What a cut still sends after the piece: its text where that is news, then the size that the viewer is told, and then
-/// an answer: its header, and one rectangle after another.
+/// an answer: its header, and one rectangle after another, or what is left of it where it was written whole.
 #[derive(Drop)]
 pub(crate) struct Coming {
     /// Whether the text of the cut comes.
@@ -20,7 +20,7 @@ pub(crate) struct Coming {
     /// Whether the header of the answer comes.
     pub(crate) head: bool,
     /// The answer, if there is one.
-    pub(crate) answer: Option<Answer>,
+    pub(crate) answer: Option<Update>,
 }
 
 impl Coming {
@@ -71,15 +71,20 @@ impl Coming {
         ensures bytes { answer_coming self.old.head self.old.answer cut.now ≡ piece.new.unsent ++ answer_coming self.new.head self.new.answer cut.now }
         ensures shows { length piece.new.unsent ≡ 0 → (answer_coming self.new.head self.new.answer cut.now ≡ []) × (piece.new.filled ≡ 0) }
     {
-        let Some(answer) = &mut self.answer else {
-            piece.clear();
-            return;
-        };
-        if self.head {
-            self.head = false;
-            piece.put_update_head(answer.count());
-        } else {
-            piece.put_rectangle(answer, cut, strip);
+        match &mut self.answer {
+            None => piece.clear(),
+            Some(Update::Whole(whole)) => {
+                piece.put_some(whole);
+                if whole.left().is_empty() {
+                    // What it took is let go as soon as it is sent.
+                    self.answer = None;
+                }
+            }
+            Some(Update::Runs(answer)) if self.head => {
+                self.head = false;
+                piece.put_update_head(answer.count());
+            }
+            Some(Update::Runs(answer)) => piece.put_rectangle(answer, cut, strip),
         }
     }
 }

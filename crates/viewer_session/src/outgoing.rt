@@ -7,11 +7,11 @@ ghost use Rattle.raster.specs.Size.{IsScreenSize};
 ghost use Rattle.reflect_core.specs.Sequential.{Begins};
 ghost use Rattle.reflect_core.specs.Source.{IsCutOf};
 ghost use Rattle.rfb_wire.specs.Writing.{bell_bytes};
-ghost use Rattle.update_encoder.specs.Coming.{AnswerStands};
-ghost use Rattle.viewer_session.specs.Outgoing.{IsSmall, answer_coming, longest_piece, size_and, text_message};
+ghost use Rattle.viewer_session.specs.Outgoing.{IsSmall, IsUpdateOf, answer_coming, longest_piece, size_and, text_message};
 
 use crate::coming::Coming;
 use crate::piece::Piece;
+use crate::update::Update;
 use fault::{Fault, LONGEST_TEXT};
 use raster::{Rect, Size, TILE_SIDE};
 use reflect_core::{Cut, ScreenSource};
@@ -19,7 +19,6 @@ use rfb_wire::{RECTANGLE_HEAD_LEN, TEXT_HEAD_LEN};
 use std::alloc::Global;
 use std::marker::Model;
 use tiles::Have;
-use update_encoder::Answer;
 
 /// How many bytes a pixel of the widest format has (RFC 6143, 7.4).
 const WIDEST_PIXEL: usize = 4;
@@ -139,11 +138,11 @@ impl Outgoing {
         bell: bool,
         text: bool,
         size: Option<Size>,
-        answer: Option<Answer>,
+        answer: Option<Update>,
     )
         requires text { text ≡ true → is_some self.old.cut.text ≡ true }
         requires size { IfSome size IsSmall }
-        requires answer { IfSome answer (λ begun. AnswerStands begun self.old.cut) }
+        requires answer { IfSome answer (IsUpdateOf self.old.cut) }
         ensures cut { self.new.cut ≡ self.old.cut }
         ensures unsent { self.new.unsent ≡ (if bell then bell_bytes else []) ++ ((if text then text_message self.old.cut.text else []) ++ size_and size (answer_coming true answer self.old.cut)) }
     {

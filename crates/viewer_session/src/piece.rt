@@ -7,6 +7,7 @@ ghost use Rattle.raster.specs.declared.tile.TheConstants.{TILE_SIDE};
 ghost use Rattle.rfb_wire.specs.Writing.{bell_bytes, server_text_bytes, size_bytes, update_head_bytes};
 ghost use Rattle.update_encoder.specs.Coming.{AnswerStands, coming};
 
+use crate::update::Whole;
 use fault::Fault;
 use raster::Size;
 use reflect_core::Cut;
@@ -133,6 +134,22 @@ impl Piece {
     {
         self.filled = write_update_head(rectangles as u16, self.bytes.as_mut_slice());
         self.sent = 0;
+    }
+
+    /// The next bytes of an answer that was written whole wait from now on, as many as there is room for, and nothing
+    /// else. Where there is none, nothing waits.
+    pub(crate) fn put_some(&mut self, whole: &mut Whole)
+        requires room { 1 ≤ self.old.room }
+        ensures room { self.new.room ≡ self.old.room }
+        ensures bytes { whole.old ≡ self.new.unsent ++ whole.new }
+        ensures shows { length self.new.unsent ≡ 0 → (whole.new ≡ []) × (self.new.filled ≡ 0) }
+    {
+        let room = self.bytes.len();
+        self.clear();
+        let left = whole.left();
+        let count = left.len().min(room);
+        self.append(&left[..count]);
+        whole.put(count);
     }
 
     /// The next rectangle of an answer waits from now on, and nothing else. Where there is none, nothing waits. The

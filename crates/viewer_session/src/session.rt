@@ -15,6 +15,8 @@ ghost use Rattle.viewer_session.specs.Viewer.{Setup, Viewer, new_viewer, may_loo
 mod reading;
 mod turning;
 
+use crate::compressor::Compressor;
+use crate::form::AnswerForm;
 use crate::outgoing::Outgoing;
 use fault::Fault;
 use joined_runs::Runs;
@@ -43,6 +45,8 @@ pub struct Session {
     runs: Runs,
     // The size of the host's screen at first, where the viewer is told of sizes.
     host: Option<Size>,
+    // Whether the viewer may be answered in ZRLE.
+    zrle: bool,
     role: Role,
     hello: Option<ViewerHello>,
     reader: ClientReader,
@@ -55,6 +59,9 @@ pub struct Session {
     out: Outgoing,
     held: Held,
     waiting: Option<Input>,
+    // Whether the first bytes of its zlib stream were sent (RFC 6143, 7.7.6).
+    stream_begun: bool,
+    compressor: Compressor,
     // How many answers were begun, for a log.
     answers: u64,
 }
@@ -72,6 +79,7 @@ impl Model for Session {
       height = s.height;
       runs = s.runs;
       host = s.host;
+      zrle = s.zrle;
       role = s.role;
       greeting = s.hello;
       reader = s.reader;
@@ -85,6 +93,7 @@ impl Model for Session {
       unsent = s.out.unsent;
       held = s.held;
       waiting = option_map input_in s.waiting;
+      begun = s.stream_begun;
     } };
 
     ghost invariant = { λ s. IsSound s.width s.height s.hello s.reader s.asked s.have s.out };
@@ -92,8 +101,8 @@ impl Model for Session {
 
 impl Session {
     /// A session of a viewer that begins with its hello, over a screen of `w` by `h` pixels with a name of 1 to 255
-    /// bytes, and that is answered in one of the two forms (`joined_runs`). It is told of the sizes of the host's
-    /// screen, of which `host` is the first, where there is one. All the room that it needs is taken here. It fails
+    /// bytes, and that is answered in this form. It is told of the sizes of the host's screen, of which `host` is the
+    /// first, where there is one. All the room that it needs is taken here, but for what answers in ZRLE take. It fails
     /// where memory is refused (`Memory`).
     pub fn open(
         alloc: Global,
@@ -101,41 +110,41 @@ impl Session {
         h: u64,
         name: &[u8],
         role: Role,
-        runs: Runs,
+        form: AnswerForm,
         host: Option<Size>,
     ) -> Result<Self, Fault>
         requires size { IsScreenSize w h }
         requires name { (1 ≤ length name.now) × (length name.now ≤ 255) }
         ensures size { IfOk result (λ session. (session.width ≡ w) × (session.height ≡ h)) }
         ensures uncut { IfOk result (λ session. session.asked.last ≡ None) }
-        ensures stands { IfOk result (λ session. (s : Setup) → s.w ≡ w → s.h ≡ h → s.name ≡ name.now → s.runs ≡ runs → s.host ≡ host → Stands s session (new_viewer role true)) }
+        ensures stands { IfOk result (λ session. (s : Setup) → s.w ≡ w → s.h ≡ h → s.name ≡ name.now → s.runs ≡ form.runs → s.host ≡ host → s.zrle ≡ form.zrle → Stands s session (new_viewer role true)) }
         ensures err { IfErr result (λ fault. fault ≡ Memory) }
     {
         let mut out = Outgoing::new(alloc, w, h)?;
         let mut hello = ViewerHello::new(w, h, name);
         say(&mut hello, &mut out);
-        Session::begun(alloc, w, h, role, runs, host, Some(hello), out)
+        Session::begun(alloc, w, h, role, form, host, Some(hello), out)
     }
 
-    /// A session of a viewer whose handshake is done, over a screen of `w` by `h` pixels, which is answered in one of
-    /// the two forms. It is told of the sizes of the host's screen, of which `host` is the first, where there is one.
-    /// All the room that it needs is taken here. It fails where memory is refused (`Memory`).
+    /// A session of a viewer whose handshake is done, over a screen of `w` by `h` pixels, which is answered in this
+    /// form. It is told of the sizes of the host's screen, of which `host` is the first, where there is one. All the
+    /// room that it needs is taken here, but for what answers in ZRLE take. It fails where memory is refused (`Memory`).
     pub fn ready(
         alloc: Global,
         w: u64,
         h: u64,
         role: Role,
-        runs: Runs,
+        form: AnswerForm,
         host: Option<Size>,
     ) -> Result<Self, Fault>
         requires { IsScreenSize w h }
         ensures size { IfOk result (λ session. (session.width ≡ w) × (session.height ≡ h)) }
         ensures uncut { IfOk result (λ session. session.asked.last ≡ None) }
-        ensures stands { IfOk result (λ session. (s : Setup) → s.w ≡ w → s.h ≡ h → s.runs ≡ runs → s.host ≡ host → Stands s session (new_viewer role false)) }
+        ensures stands { IfOk result (λ session. (s : Setup) → s.w ≡ w → s.h ≡ h → s.runs ≡ form.runs → s.host ≡ host → s.zrle ≡ form.zrle → Stands s session (new_viewer role false)) }
         ensures err { IfErr result (λ fault. fault ≡ Memory) }
     {
         let out = Outgoing::new(alloc, w, h)?;
-        Session::begun(alloc, w, h, role, runs, host, None, out)
+        Session::begun(alloc, w, h, role, form, host, None, out)
     }
 
     /// A session that begins with this hello, or with none. What the hello says first waits in `out`.
@@ -144,7 +153,7 @@ impl Session {
         w: u64,
         h: u64,
         role: Role,
-        runs: Runs,
+        form: AnswerForm,
         host: Option<Size>,
         hello: Option<ViewerHello>,
         out: Outgoing,
@@ -154,15 +163,16 @@ impl Session {
         requires greets { IsGreeting hello out }
         ensures size { IfOk result (λ session. (session.width ≡ w) × (session.height ≡ h)) }
         ensures uncut { IfOk result (λ session. session.asked.last ≡ None) }
-        ensures stands { IfOk result (λ session. (s : Setup) (greet : Bool) → s.w ≡ w → s.h ≡ h → s.runs ≡ runs → s.host ≡ host → IsBegun s role greet hello out → Stands s session (new_viewer role greet)) }
+        ensures stands { IfOk result (λ session. (s : Setup) (greet : Bool) → s.w ≡ w → s.h ≡ h → s.runs ≡ form.runs → s.host ≡ host → s.zrle ≡ form.zrle → IsBegun s role greet hello out → Stands s session (new_viewer role greet)) }
         ensures err { IfErr result (λ fault. fault ≡ Memory) }
     {
         let have = Have::new(alloc, w, h)?;
         Ok(Session {
             width: w,
             height: h,
-            runs,
+            runs: form.runs,
             host,
+            zrle: form.zrle,
             role,
             hello,
             reader: ClientReader::new(alloc),
@@ -171,6 +181,7 @@ impl Session {
                 kind: Encoding::Raw,
                 copy: false,
                 resizes: false,
+                zrle: false,
             },
             told: None,
             asked: Asked::new(w, h),
@@ -178,6 +189,8 @@ impl Session {
             out,
             held: Held::new(),
             waiting: None,
+            stream_begun: false,
+            compressor: Compressor::new(alloc),
             answers: 0,
         })
     }
@@ -290,10 +303,11 @@ impl Session {
     }
 
     /// The format in which answers would use what a source lends, forms of tiles and encoded areas: they are written in
-    /// joined runs, in Hextile and in a format that keeps colours apart. No clause speaks of it.
+    /// joined runs, in Hextile without ZRLE, and in a format that keeps colours apart. No clause speaks of it.
     pub fn wants_forms(&self) -> Option<Format> {
         let uses = self.runs == Runs::Joined
             && self.choice.kind == Encoding::Hextile
+            && !(self.zrle && self.choice.zrle)
             && self.format.keeps_apart();
         uses.then_some(self.format)
     }

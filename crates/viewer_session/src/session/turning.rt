@@ -1,18 +1,20 @@
 //! Turns: looks, cuts, and what they begin to send.
 
-ghost use Rattle.std.specs.Prelude.{◌≡◌, ◌<◌, ◌≤◌, not, ◌==◌, true, false, is_some, List, ◌∷◌, length, IfOk, IfErr, IfSome, Ok, Some};
+ghost use Rattle.std.specs.Prelude.{◌≡◌, ◌<◌, ◌≤◌, not, ◌==◌, true, false, is_some, List, ◌∷◌, length, IfOk, IfErr, IfNone, IfSome, None, Ok, Some};
 ghost use Rattle.fault.specs.declared.kinds.Fault.TheVariants.{Gone};
+ghost use Rattle.raster.specs.Screen.{IsWithin};
 ghost use Rattle.reflect_core.specs.Asked.{AskedStands, LiesOn};
 ghost use Rattle.reflect_core.specs.Sequential.{Begins};
 ghost use Rattle.tiles.specs.Have.{HaveStands};
 ghost use Rattle.tiles.specs.Touched.{Event, NewSize, WasCut, told_last};
 ghost use Rattle.update_encoder.specs.Coming.{AnswerStands};
-ghost use Rattle.viewer_session.specs.Found.{answered_at, has_newer, rings, told_or_answered, update_in};
-ghost use Rattle.viewer_session.specs.Outgoing.{IsSmall, answer_coming, size_and};
+ghost use Rattle.viewer_session.specs.Found.{IsSentAs, IsWholeAnswer, answered_at, begun_bytes, has_newer, rings, told_or_answered, update_in};
+ghost use Rattle.viewer_session.specs.Outgoing.{IsSmall, IsUpdateOf, size_and};
 ghost use Rattle.viewer_session.specs.Session.{HasOnlyLooked, IsSameViewer, asked_now, is_ready, wants_cut, size_now, style_now, told_now, CutsAt, Turns};
 ghost use Rattle.viewer_session.specs.Turn.{size_or_update, update_part};
 
 use super::Session;
+use crate::update::{Update, Whole};
 use fault::Fault;
 use raster::{Rect, Size};
 use reflect_core::{Cut, ScreenSource};
@@ -87,7 +89,7 @@ impl Session {
         ensures others { self.new ≡ record self.old { asked = self.new.asked; have = self.new.have } }
         ensures last { self.new.asked.last ≡ self.old.asked.last }
         ensures stands { IfSome result (λ answer. AnswerStands answer self.old.cut) }
-        ensures bytes { answer_coming true result self.old.cut ≡ update_part (update_in (style_now self.old) self.old.cut area) }
+        ensures bytes { begun_bytes result self.old.cut ≡ update_part (update_in (style_now self.old) self.old.cut area) }
         ensures asked { (es : List Event) → AskedStands self.old.asked es → AskedStands self.new.asked (answered_at number (update_in (style_now self.old) self.old.cut area) es) }
         ensures have { (es : List Event) → told_last es ≡ self.old.told → HaveStands self.old.have es → HaveStands self.new.have (answered_at number (update_in (style_now self.old) self.old.cut area) es) }
     {
@@ -130,7 +132,8 @@ impl Session {
         ensures others { self.new ≡ record self.old { told = self.new.told; asked = self.new.asked; have = self.new.have } }
         ensures last { self.new.asked.last ≡ self.old.asked.last }
         ensures stands { IfSome result (λ answer. AnswerStands answer self.old.cut) }
-        ensures bytes { size_and size (answer_coming true result self.old.cut) ≡ size_or_update size (update_in (style_now self.old) self.old.cut area) }
+        ensures alone { is_some result ≡ true → size ≡ None }
+        ensures bytes { size_and size (begun_bytes result self.old.cut) ≡ size_or_update size (update_in (style_now self.old) self.old.cut area) }
         ensures told { (es : List Event) → told_last es ≡ self.old.told → told_last (told_or_answered number size (update_in (style_now self.old) self.old.cut area) es) ≡ self.new.told }
         ensures asked { (es : List Event) → AskedStands self.old.asked es → AskedStands self.new.asked (told_or_answered number size (update_in (style_now self.old) self.old.cut area) es) }
         ensures have { (es : List Event) → told_last es ≡ self.old.told → HaveStands self.old.have es → HaveStands self.new.have (told_or_answered number size (update_in (style_now self.old) self.old.cut area) es) }
@@ -152,7 +155,8 @@ impl Session {
         ensures size { result.0 ≡ size_now self.old }
         ensures small { IfSome result.0 IsSmall }
         ensures stands { IfSome result.1 (λ answer. AnswerStands answer self.old.cut) }
-        ensures bytes { size_and result.0 (answer_coming true result.1 self.old.cut) ≡ size_or_update result.0 (update_in (style_now self.old) self.old.cut area) }
+        ensures alone { is_some result.1 ≡ true → result.0 ≡ None }
+        ensures bytes { size_and result.0 (begun_bytes result.1 self.old.cut) ≡ size_or_update result.0 (update_in (style_now self.old) self.old.cut area) }
         ensures told { (es : List Event) → told_last es ≡ self.old.told → told_last (told_or_answered number result.0 (update_in (style_now self.old) self.old.cut area) es) ≡ self.new.told }
         ensures asked { (es : List Event) → AskedStands self.old.asked es → AskedStands self.new.asked (told_or_answered number result.0 (update_in (style_now self.old) self.old.cut area) es) }
         ensures have { (es : List Event) → told_last es ≡ self.old.told → HaveStands self.old.have es → HaveStands self.new.have (told_or_answered number result.0 (update_in (style_now self.old) self.old.cut area) es) }
@@ -162,14 +166,54 @@ impl Session {
         (size, answer)
     }
 
+    /// The answer for this area written whole, where the viewer may be answered in ZRLE and would rather be. There is
+    /// none where memory is refused, or where the compressor writes none.
+    fn write_whole(&mut self, area: &Rect) -> Option<Whole>
+        requires { IsWithin area.now self.old.cut.width self.old.cut.height }
+        ensures others { self.new ≡ record self.old { begun = self.new.begun } }
+        ensures some { IfSome result (IsWholeAnswer self.old self.new.begun area.now) }
+        ensures none { IfNone result (self.new.begun ≡ self.old.begun) }
+    {
+        if !(self.zrle && self.choice.zrle) {
+            return None;
+        }
+        let style = Style {
+            runs: self.runs,
+            format: self.format,
+            choice: self.choice,
+        };
+        let cut = self.out.cut();
+        let (begun, bytes) = self.compressor.write(cut, area, &style, self.stream_begun)?;
+        self.stream_begun = begun;
+        Some(Whole::new(bytes))
+    }
+
+    /// The answer for this area as it is sent: whole where it was written so, and otherwise as it was begun.
+    fn compress(&mut self, area: Option<Rect>, answer: Option<Answer>) -> Option<Update>
+        requires area { LiesOn self.old.cut.width self.old.cut.height area }
+        requires stands { IfSome answer (λ answer. AnswerStands answer self.old.cut) }
+        ensures others { self.new ≡ record self.old { begun = self.new.begun } }
+        ensures stands { IfSome result (IsUpdateOf self.old.cut) }
+        ensures sent { IsSentAs self.old self.new.begun area answer result }
+    {
+        let answer = answer?;
+        let Some(area) = area else {
+            return Some(Update::Runs(answer));
+        };
+        match self.write_whole(&area) {
+            Some(whole) => Some(Update::Whole(whole)),
+            None => Some(Update::Runs(answer)),
+        }
+    }
+
     /// The second half of a turn, after a look that replied `looked`. Where there is reason the source is cut, and what
     /// the cut brings begins to be sent: one Bell where Bells have become more since the last cut, the text where it is
     /// newer, and, where an area is pending, the host's size if the viewer takes sizes and was told another, or else an
     /// answer for that area where a tile of it is due. The first cut brings neither Bell nor text. The call answers
     /// whether anything is begun.
     ///
-    /// It takes no memory. It fails where a source that may end has ended (`Gone`); then session and source are as they
-    /// were.
+    /// It takes memory for an answer in ZRLE alone, and where that is refused the answer is written without. It fails
+    /// where a source that may end has ended (`Gone`); then session and source are as they were.
     pub fn turn_at<S: ScreenSource>(&mut self, source: &mut S, looked: u64) -> Result<bool, Fault>
         requires ready { is_ready self.old ≡ true }
         requires screen { (S.width source.old ≡ self.old.width) × (S.height source.old ≡ self.old.height) }
@@ -191,7 +235,8 @@ impl Session {
         self.asked.was_cut(number);
         let news = news_of(self.out.cut(), last, bells);
         let (size, answer) = self.begin_answer(area, number);
-        self.out.begin(news.bell, news.text, size, answer);
+        let update = self.compress(area, answer);
+        self.out.begin(news.bell, news.text, size, update);
         Ok(!self.out.piece().is_empty())
     }
 

@@ -1,6 +1,6 @@
-use Rattle.std.proofs.Common.{refl, subst, sym, ap, inl, inr}
-use Rattle.std.specs.Prelude.{OnOk, Ok, Err, None, Some, Option}
-use Rattle.std.proofs.lemmas.Result.{IfErr-weaker, on_ok_weaker}
+use Rattle.std.proofs.Common.{refl, subst, sym}
+use Rattle.std.specs.Prelude.{Ok, None, Some, Option}
+use Rattle.std.proofs.lemmas.Result.{on_ok_weaker}
 use Rattle.painter.specs.Patch.{SizedUpdate}
 use Rattle.reflect_world.specs.Host.{ReadsOn}
 use Rattle.reflect_world.specs.World.{Reached, Standing}

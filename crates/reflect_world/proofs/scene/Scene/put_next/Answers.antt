@@ -1,5 +1,5 @@
-use Rattle.std.proofs.Common.{refl, subst, sym, ◌∙◌, inl}
-use Rattle.std.specs.Prelude.{OnOk, Ok, Err, None, Some, Option}
+use Rattle.std.proofs.Common.{refl, subst, sym, inl}
+use Rattle.std.specs.Prelude.{OnOk, Ok, None, Some, Option}
 use Rattle.std.proofs.lemmas.Result.{on_ok_weaker}
 use Rattle.painter.specs.Patch.{SizedUpdate}
 use Rattle.reflect_world.specs.Host.{ReadsOn}

@@ -12,6 +12,6 @@ returns-clause-err g c =
       refused.0,
       refused.1,
       refused.2,
-      as_before o.cut c.cut.new.into o.piece.filled o.piece.unsent (all_coming o.coming o.cut) (all_coming c.nothing-self-inside.result c.cut.new.into) refused.3 (ap (λ (s : Sending). length s.unsent) c.self.view_is ∙ c.requires.sent) (ap (λ t. all_coming t c.cut.new.into) c.nothing-self-inside.ensures) ∙ c.self.view_is,
+      as_before o.cut c.cut.new.into o.piece.filled o.piece.unsent (all_coming o.coming o.cut) (all_coming c.nothing.result c.cut.new.into) refused.3 (ap (λ (s : Sending). length s.unsent) c.self.view_is ∙ c.requires.sent) (ap (λ t. all_coming t c.cut.new.into) c.nothing.ensures) ∙ c.self.view_is,
     ))
     c.cut.ensures.err

@@ -5,13 +5,14 @@ use Rattle.viewer_session.proofs.Relaying.{nothing_held}
 use Rattle.viewer_session.proofs.session.Session.begun.Goals as goal
 
 pub returns-clause-stands : goal.returns-clause-stands
-returns-clause-stands c = λ s greet ew eh en ef b.
+returns-clause-stands c = λ s greet ew eh en ef ez b.
     record {
       serves = record {
         width = sym ew;
         height = sym eh;
         runs = sym en;
         host = sym ef;
+        zrle = sym ez;
         role = refl;
         rests = refl;
         greets = b.greets;
@@ -21,6 +22,7 @@ returns-clause-stands c = λ s greet ew eh en ef b.
         keeps = record { asked = c.new-3.ensures.stands; have = c.in_ok-have.ensures.ok.2; format = refl; choice = refl; told = refl };
         written = omega arith;
         unsent = b.unsent;
+        begun = refl;
       };
       relays = record {
         waiting = refl;

@@ -1,0 +1,12 @@
+//! How viewers are answered.
+
+use joined_runs::Runs;
+
+/// How all viewers of a screen are answered.
+#[derive(Clone, Copy, Debug, PartialEq, Eq)]
+pub struct AnswerForm {
+    /// The form of rectangles in RRE and Hextile.
+    pub runs: Runs,
+    /// Whether a viewer that would rather have ZRLE is answered in it (RFC 6143, 7.7.6).
+    pub zrle: bool,
+}
