@@ -142,6 +142,7 @@ fn settings(alloc: Global, host: String, bind: String, ports: PortsOfRun) -> Set
         view_places: 1,
         room: None,
         plain_runs: false,
+        no_zrle: false,
         web_full: Some(ports.web_full),
         web_view: Some(ports.web_view),
         web_root: None,
@@ -150,6 +151,8 @@ fn settings(alloc: Global, host: String, bind: String, ports: PortsOfRun) -> Set
         proxy_from: None,
         log: false,
         again: None,
+        from: None,
+        speed: None,
         stalled: 60,
         control: None,
         recording: None,
@@ -165,7 +168,7 @@ where
         + Threads
         + Wait
         + Clock
-        + Files<File = File>
+        + Files<File = File, Dir: Send>
         + AllocGlobal
         + RandomSource
         + Env
@@ -194,7 +197,7 @@ where
         + Threads
         + Wait
         + Clock
-        + Files<File = File>
+        + Files<File = File, Dir: Send>
         + AllocGlobal
         + RandomSource
         + Env

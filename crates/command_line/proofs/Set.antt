@@ -9,9 +9,9 @@ use Rattle.clap.specs.declared.error.Error.{Error}
 use Rattle.clap.specs.declared.error.kind.ErrorKind.TheVariants.{OutOfMemory}
 use Rattle.clap.specs.declared.parser.matches.Found.{Found}
 use Rattle.clap.proofs.WalkLemmas.{first_value-rows, raw_values-rows}
-use Rattle.command_line.specs.Given.{AreSetBy, IsBadLine, IsPause, given, known, text_of, Spells, IsPort, IsRoom}
+use Rattle.command_line.specs.Given.{AreMisread, AreSetBy, IsBadLine, IsPause, given, known, text_of, Spells, IsPort, IsRoom, IsSpeed, IsTime}
 use Rattle.command_line.specs.Serve.{IsBad, serve}
-use Rattle.command_line.specs.Values.{AreValuesOf, HasNoRoom, IsNumberOf}
+use Rattle.command_line.specs.Values.{AreValuesOf, IsMisread, IsNumberOf}
 use Rattle.settings.specs.declared.values.Settings.{Settings}
 use Rattle.command_line.proofs.Defaults.{Defaults, NoDefault, all_kept, first_kept, text_kept}
 use Rattle.command_line.proofs.Named.{all_named, named}
@@ -60,10 +60,13 @@ values_set f words s rows of = record {
   view_places = number_is f words rows (codes "view-places") (codes "4") (default (codes "view-places") (codes "4") ((refl, refl), tt)) _ _ _ of.view_places;
   room = subst (λ (o : Option Text). IsRoom o s.room) (given_is f words rows (codes "room") (without (codes "room") (refl, tt))) of.room;
   plain_runs = of.plain_runs ∙ ap (λ (t : Text). bytes_eq t (codes "true")) (text_else f words rows (codes "plain-runs") (codes "false") (default (codes "plain-runs") (codes "false") ((refl, refl), tt)));
+  no_zrle = of.no_zrle ∙ ap (λ (t : Text). bytes_eq t (codes "true")) (text_else f words rows (codes "no-zrle") (codes "false") (default (codes "no-zrle") (codes "false") ((refl, refl), tt)));
   metrics = of.metrics ∙ given_is f words rows (codes "metrics") (without (codes "metrics") (refl, tt));
   proxy_from = of.proxy_from ∙ given_is f words rows (codes "proxy-from") (without (codes "proxy-from") (refl, tt));
   log = of.log ∙ ap (λ (t : Text). bytes_eq t (codes "true")) (text_else f words rows (codes "log") (codes "false") (default (codes "log") (codes "false") ((refl, refl), tt)));
   again = subst (λ (o : Option Text). IsPause o s.again) (given_is f words rows (codes "again") (without (codes "again") (refl, tt))) of.again;
+  from = subst (λ (o : Option Text). IsTime o s.from) (given_is f words rows (codes "from") (without (codes "from") (refl, tt))) of.from;
+  speed = subst (λ (o : Option Text). IsSpeed o s.speed) (given_is f words rows (codes "speed") (without (codes "speed") (refl, tt))) of.speed;
   stalled = number_is f words rows (codes "stalled") (codes "60") (default (codes "stalled") (codes "60") ((refl, refl), tt)) _ _ _ of.stalled;
   web_full = subst (λ (o : Option Text). IsPort o s.web_full) (given_is f words rows (codes "web-full") (without (codes "web-full") (refl, tt))) of.web_full;
   web_view = subst (λ (o : Option Text). IsPort o s.web_view) (given_is f words rows (codes "web-view") (without (codes "web-view") (refl, tt))) of.web_view;
@@ -83,10 +86,18 @@ values_set f words s rows of = record {
   recording_key_range = of.recording_key.3;
 }
 
--- a text for the room that spells none is bad, and so is a lack of memory
-pub no_room_is : (f : Found) (words : List Text) (status : ℕ) → rows_of f ≡ matches_of serve words → (status ≡ 4) ⊎ ((status ≡ 2) × HasNoRoom f) → IsBadLine words status
-no_room_is f words status rows (inl four) = inl (inl four)
-no_room_is f words status rows (inr (two, (text, first, none))) = inr (two, text, sym (given_is f words rows (codes "room") (without (codes "room") (refl, tt))) ∙ first, none)
+-- a text that is misread is bad, and so is a lack of memory
+pub misread_is : (f : Found) (words : List Text) (status : ℕ) → rows_of f ≡ matches_of serve words → (status ≡ 4) ⊎ ((status ≡ 2) × IsMisread f) → IsBadLine words status
+misread_is f words status rows (inl four) = inl (inl four)
+misread_is f words status rows (inr (two, misread)) =
+    let room = given_is f words rows (codes "room") (without (codes "room") (refl, tt)) in
+    let from = given_is f words rows (codes "from") (without (codes "from") (refl, tt)) in
+    let speed = given_is f words rows (codes "speed") (without (codes "speed") (refl, tt)) in
+    let host = given_is f words rows (codes "host") (without (codes "host") (refl, tt)) in
+    let with_room = subst (λ (o : Option Text). AreMisread o (first_value f (codes "from")) (first_value f (codes "speed")) (first_value f (codes "host"))) room misread in
+    let with_from = subst (λ (o : Option Text). AreMisread (given words (codes "room")) o (first_value f (codes "speed")) (first_value f (codes "host"))) from with_room in
+    let with_speed = subst (λ (o : Option Text). AreMisread (given words (codes "room")) (given words (codes "from")) o (first_value f (codes "host"))) speed with_from in
+    inr (two, subst (λ (o : Option Text). AreMisread (given words (codes "room")) (given words (codes "from")) (given words (codes "speed")) o) host with_speed)
 
 -- what clap refuses is bad
 pub refusal_is : {app : App} (words : List Text) (e : Error) (status : ℕ) → app ≡ serve → HasKind (fault_of app words) e

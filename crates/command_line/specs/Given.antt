@@ -1,5 +1,5 @@
 -- What a line sets.
-use Rattle.std.specs.Prelude.{◌≡◌, ◌≢◌, ◌≤◌, ◌⊎◌, List, Option, Some, None, [], codes, map, option_map, unwrap_or, ℕ}
+use Rattle.std.specs.Prelude.{◌≡◌, ◌≢◌, ◌≤◌, ◌⊎◌, is_some, true, List, Option, Some, None, [], codes, map, option_map, unwrap_or, ℕ}
 use Rattle.std.specs.Str.{bytes_eq}
 use Rattle.std.specs.String.{string_bytes}
 use Rattle.std.specs.Str.Parse.{IsNumeral, digits_value, without_leading_plus}
@@ -7,6 +7,11 @@ use Rattle.raster.specs.Size.{IsScreenSize}
 use Rattle.clap.specs.Words.{Rule, Text, all_of, built, fault_of, first_of}
 use Rattle.clap.specs.Walk.{nothing_held, settled, walk}
 use Rattle.command_line.specs.Serve.{IsBad, serve}
+use Rattle.play_control.specs.Times.{IsClockText, IsClockTime}
+use Rattle.play_control.specs.Speeds.{SpellsSpeed}
+use Rattle.play_control.specs.declared.clock_time.ClockTime.{ClockTime}
+use Rattle.play_control.specs.declared.speed.Speed.{Speed}
+use Rattle.settings.specs.Recordings.{PlaysFrom}
 use Rattle.settings.specs.Rooms.{room_text}
 use Rattle.settings.specs.declared.room.Room.{Room}
 use Rattle.settings.specs.declared.values.Settings.{Settings}
@@ -55,10 +60,36 @@ IsRoom (Some text) room = (r : Room) × (room ≡ Some r) × (text ≡ room_text
 abbrev pub IsNoRoom : Text → Type 0
 IsNoRoom text = (width height : ℕ) → IsScreenSize width height → text ≢ room_text width height
 
--- memory was refused, or the line has one of clap's faults, or the text that it gives the room spells none
+-- the time that the text spells, or none where there is no text
+abbrev pub IsTime : Option Text → Option ClockTime → Type 0
+IsTime None time = time ≡ None
+IsTime (Some text) time = (t : ClockTime) × (time ≡ Some t) × IsClockTime t × IsClockText text t
+
+abbrev pub IsNoTime : Text → Type 0
+IsNoTime text = (time : ClockTime) → IsClockTime time → ¬ IsClockText text time
+
+-- the speed that the text spells, from 0.25 to 16, or none where there is no text
+abbrev pub IsSpeed : Option Text → Option Speed → Type 0
+IsSpeed None speed = speed ≡ None
+IsSpeed (Some text) speed = (s : Speed) × (speed ≡ Some s) × (25 ≤ s.hundredths) × (s.hundredths ≤ 1600) × SpellsSpeed text s.hundredths
+
+abbrev pub IsNoSpeed : Text → Type 0
+IsNoSpeed text = (n : ℕ) → 25 ≤ n → n ≤ 1600 → ¬ SpellsSpeed text n
+
+-- By these texts of the options `--room`, `--from`, `--speed` and `--host`, the first spells no room, the second no
+-- time or the third no speed; or the second or third is there, though the host is no recording.
+abbrev pub AreMisread : (room from speed host : Option Text) → Type 0
+AreMisread room from speed host =
+    ((text : Text) × (room ≡ Some text) × IsNoRoom text)
+    ⊎ ((text : Text) × (from ≡ Some text) × IsNoTime text)
+    ⊎ ((text : Text) × (speed ≡ Some text) × IsNoSpeed text)
+    ⊎ (((is_some from ≡ true) ⊎ (is_some speed ≡ true)) × (text : Text) × (host ≡ Some text) × ((path : Text) → ¬ PlaysFrom text path))
+
+-- memory was refused, or the line has one of clap's faults, or a text that it gives is misread
 abbrev pub IsBadLine : List Text → ℕ → Type 0
 IsBadLine words status =
-    IsBad (fault_of serve words) status ⊎ ((status ≡ 2) × (text : Text) × (given words (codes "room") ≡ Some text) × IsNoRoom text)
+    IsBad (fault_of serve words) status
+    ⊎ ((status ≡ 2) × AreMisread (given words (codes "room")) (given words (codes "from")) (given words (codes "speed")) (given words (codes "host")))
 
 -- the settings are those that the words set; a flag that the words give has the text `true`, and can have no other
 pub record AreSetBy (words : List Text) (s : Settings) : Type 0 where
@@ -75,6 +106,7 @@ pub record AreSetBy (words : List Text) (s : Settings) : Type 0 where
   pub view_places : Spells (text_of words (codes "view-places") (codes "4")) s.view_places
   pub room : IsRoom (given words (codes "room")) s.room
   pub plain_runs : s.plain_runs ≡ bytes_eq (text_of words (codes "plain-runs") (codes "false")) (codes "true")
+  pub no_zrle : s.no_zrle ≡ bytes_eq (text_of words (codes "no-zrle") (codes "false")) (codes "true")
   pub web_full : IsPort (given words (codes "web-full")) s.web_full
   pub web_view : IsPort (given words (codes "web-view")) s.web_view
   pub web_root : option_map string_bytes s.web_root ≡ given words (codes "web-root")
@@ -83,6 +115,8 @@ pub record AreSetBy (words : List Text) (s : Settings) : Type 0 where
   pub proxy_from : option_map string_bytes s.proxy_from ≡ given words (codes "proxy-from")
   pub log : s.log ≡ bytes_eq (text_of words (codes "log") (codes "false")) (codes "true")
   pub again : IsPause (given words (codes "again")) s.again
+  pub from : IsTime (given words (codes "from")) s.from
+  pub speed : IsSpeed (given words (codes "speed")) s.speed
   pub stalled : Spells (text_of words (codes "stalled") (codes "60")) s.stalled
   pub control : option_map string_bytes s.control ≡ given words (codes "control")
   pub recording : option_map string_bytes s.recording ≡ given words (codes "record")

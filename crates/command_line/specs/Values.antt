@@ -4,7 +4,7 @@ use Rattle.std.specs.Str.{bytes_eq}
 use Rattle.std.specs.String.{string_bytes}
 use Rattle.clap.specs.Words.{IsSignedIn, IsUnsignedIn, Text, first_value, matched_of, one_text, raw_values, without_minus}
 use Rattle.clap.specs.declared.parser.matches.Found.{Found}
-use Rattle.command_line.specs.Given.{IsIn, IsNoRoom, IsPause, IsPort, IsRoom, Spells}
+use Rattle.command_line.specs.Given.{AreMisread, IsIn, IsPause, IsPort, IsRoom, IsSpeed, IsTime, Spells}
 use Rattle.settings.specs.declared.values.Settings.{Settings}
 
 -- the option has a text
@@ -66,9 +66,10 @@ abbrev pub IsNumberOf : Found → Text → ℕ → ℕ → ℕ → Type 0
 IsNumberOf found name low most n =
     (text : Text) × (first_value found name ≡ Some text) × Spells text n × IsIn low most n
 
--- the option for the room has a text that spells none
-abbrev pub HasNoRoom : Found → Type 0
-HasNoRoom found = (text : Text) × (first_value found (codes "room") ≡ Some text) × IsNoRoom text
+-- the text of an option is misread
+abbrev pub IsMisread : Found → Type 0
+IsMisread found =
+    AreMisread (first_value found (codes "room")) (first_value found (codes "from")) (first_value found (codes "speed")) (first_value found (codes "host"))
 
 -- the values are those of the matches
 pub record AreValuesOf (found : Found) (s : Settings) : Type 0 where
@@ -85,6 +86,7 @@ pub record AreValuesOf (found : Found) (s : Settings) : Type 0 where
   pub view_places : IsNumberOf found (codes "view-places") 1 32 s.view_places
   pub room : IsRoom (first_value found (codes "room")) s.room
   pub plain_runs : s.plain_runs ≡ flag_of found (codes "plain-runs")
+  pub no_zrle : s.no_zrle ≡ flag_of found (codes "no-zrle")
   pub web_full : IsPort (first_value found (codes "web-full")) s.web_full
   pub web_view : IsPort (first_value found (codes "web-view")) s.web_view
   pub web_root : option_map string_bytes s.web_root ≡ first_value found (codes "web-root")
@@ -93,6 +95,8 @@ pub record AreValuesOf (found : Found) (s : Settings) : Type 0 where
   pub proxy_from : option_map string_bytes s.proxy_from ≡ first_value found (codes "proxy-from")
   pub log : s.log ≡ flag_of found (codes "log")
   pub again : IsPause (first_value found (codes "again")) s.again
+  pub from : IsTime (first_value found (codes "from")) s.from
+  pub speed : IsSpeed (first_value found (codes "speed")) s.speed
   pub stalled : IsNumberOf found (codes "stalled") 10 600 s.stalled
   pub control : option_map string_bytes s.control ≡ first_value found (codes "control")
   pub recording : option_map string_bytes s.recording ≡ first_value found (codes "record")

@@ -47,7 +47,9 @@ fn control_command<'a>(alloc: Global) -> Result<Command<'a>, AllocError> {
         .action(ArgAction::Append)
         .num_args(1..)
         .required(true)
-        .help("state, state json, drain, undrain, end PLACE, next, call full|view IP:PORT or stop");
+        .help(
+            "state, state json, drain, undrain, end PLACE, next, pause, play, seek HH:MM:SS, call full|view IP:PORT or stop",
+        );
     Command::new(alloc, "control")
         .about("Asks something of a run that goes on, and prints the answer")
         .arg(path)?
@@ -161,6 +163,11 @@ fn options<'a>(alloc: Global) -> Result<Vec<Arg<'a>>, AllocError>
             "plain-runs",
             "Write RRE and Hextile as runs of one row, which have more bytes"
         ),
+        flag(
+            alloc,
+            "no-zrle",
+            "Answer no viewer in ZRLE, which has fewer bytes and takes more time"
+        ),
         web_port(alloc, "web-full", "A port for browsers with full control"),
         web_port(alloc, "web-view", "A port for browsers that only look on"),
         option(
@@ -196,6 +203,18 @@ fn options<'a>(alloc: Global) -> Result<Vec<Arg<'a>>, AllocError>
             alloc,
             "again",
             "Try the first host again so long after the last has ended, up to 3600",
+        ),
+        option(
+            alloc,
+            "from",
+            "HH:MM:SS",
+            "The time from which recordings are played; else from their beginning"
+        ),
+        option(
+            alloc,
+            "speed",
+            "TIMES",
+            "How fast recordings are played, from 0.25 to 16 times their own pace"
         ),
         seconds(
             alloc,
@@ -245,7 +264,7 @@ fn host<'a>(alloc: Global) -> Arg<'a>
         alloc,
         "host",
         "HOST:PORT",
-        "The VNC host, by its address or name, or listen:IP:PORT where it calls",
+        "The VNC host, by its address or name, listen:IP:PORT where it calls, or file:PATH of a recording",
     )
     .required(true)
 }

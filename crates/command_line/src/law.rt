@@ -17,6 +17,9 @@ pub fn worked_lines()
     ensures log_given { given (codes "--log" ∷ codes "--host" ∷ codes "h:1" ∷ []) (codes "log") ≡ Some (codes "true") }
     ensures log_not_given { given (codes "--host" ∷ codes "h:1" ∷ []) (codes "log") ≡ None }
     ensures log_of_no_value { fault_of serve (codes "--host" ∷ codes "h:1" ∷ codes "--log=no" ∷ []) ≡ TooManyValues ∷ [] }
+    ensures from_given { given (codes "--from" ∷ codes "01:30:00" ∷ codes "--host" ∷ codes "file:a" ∷ []) (codes "from") ≡ Some (codes "01:30:00") }
+    ensures speed_given { given (codes "--host" ∷ codes "file:a" ∷ codes "--speed=0.5" ∷ []) (codes "speed") ≡ Some (codes "0.5") }
+    ensures speed_not_given { given (codes "--host" ∷ codes "h:1" ∷ []) (codes "speed") ≡ None }
     ensures again_0 { fault_of serve (codes "--host" ∷ codes "h:1" ∷ codes "--again" ∷ codes "0" ∷ []) ≡ ValueValidation ∷ [] }
     ensures again_3601 { fault_of serve (codes "--host" ∷ codes "h:1" ∷ codes "--again" ∷ codes "3601" ∷ []) ≡ ValueValidation ∷ [] }
     ensures stalled_9 { fault_of serve (codes "--host" ∷ codes "h:1" ∷ codes "--stalled" ∷ codes "9" ∷ []) ≡ ValueValidation ∷ [] }

@@ -1,16 +1,18 @@
 //! The line of `serve`.
 
-ghost use Rattle.std.specs.Prelude.{◌≡◌, ◌⊎◌, IfErr, IfOk, Some, [], codes, map, option_map};
+ghost use Rattle.std.specs.Prelude.{◌≡◌, ◌⊎◌, ℕ, List, IfErr, IfOk, Some, [], codes, is_some, map, option_map, true};
+ghost use Rattle.settings.specs.Recordings.{PlaysFrom};
 ghost use Rattle.std.specs.String.{string_bytes};
 ghost use Rattle.clap.specs.Words.{fault_of, first_value, found_of};
-ghost use Rattle.command_line.specs.Given.{AreSetBy, IsBadLine, IsNoRoom, IsPause, IsPort, IsRoom};
+ghost use Rattle.command_line.specs.Given.{AreSetBy, IsBadLine, IsNoRoom, IsNoSpeed, IsNoTime, IsPause, IsPort, IsRoom, IsSpeed, IsTime};
 ghost use Rattle.command_line.specs.Serve.{serve};
-ghost use Rattle.command_line.specs.Values.{AreValuesOf, HasNoRoom, HasPlaces, HasPort, HasSeconds, HasText, HasValues, IsNumberOf, MayHavePause, MayHavePort, flag_of, texts_in};
+ghost use Rattle.command_line.specs.Values.{AreValuesOf, HasPlaces, HasPort, HasSeconds, HasText, HasValues, IsMisread, IsNumberOf, MayHavePause, MayHavePort, flag_of, texts_in};
 
 use crate::bad_line::BadLine;
 use crate::command::serve_command;
 use clap::ArgMatches;
-use settings::{Room, Settings};
+use play_control::{ClockTime, Speed};
+use settings::{Room, Settings, recording_path};
 use std::alloc::{AllocError, Global};
 use std::convert::AsStr;
 
@@ -33,30 +35,61 @@ pub fn settings<'a, S: AsStr>(alloc: Global, words: &'a [S]) -> Result<Settings,
     }
 }
 
-/// What the matches set. It fails where the text of `--room` is of no room, or memory is refused.
-#[tactic(auto, using(crate::proofs::Rooms::has_no_room))]
+/// Whether settings say how recordings are played, though no host is one.
+fn plays_nothing(settings: &Settings) -> bool
+    ensures option { result ≡ true → (is_some settings.now.from ≡ true) ⊎ (is_some settings.now.speed ≡ true) }
+    ensures host { result ≡ true → (path : List ℕ) → ¬ PlaysFrom (string_bytes settings.now.host) path }
+{
+    if settings.from.is_none() && settings.speed.is_none() {
+        return false;
+    }
+    if recording_path(settings.host.as_str()).is_some() {
+        return false;
+    }
+    let mut hosts = settings.next.iter();
+    hosts.all(|host| recording_path(host.as_str()).is_none())
+}
+
+/// What the matches set. It fails where the text of `--room` is of no room, that of `--from` of no time or that of
+/// `--speed` of no speed, where one of the latter is given though no host is a recording, or where memory is refused.
+#[tactic(auto, using(crate::proofs::Rooms::has_no_room, crate::proofs::Rooms::has_no_time, crate::proofs::Rooms::has_no_speed))]
 fn told(alloc: Global, matches: &ArgMatches<'_>) -> Result<Settings, BadLine>
     requires { HasValues (found_of matches.now) }
     ensures ok { IfOk result (λ s. AreValuesOf (found_of matches.now) s) }
-    ensures err { IfErr result (λ bad. (bad.status ≡ 4) ⊎ ((bad.status ≡ 2) × HasNoRoom (found_of matches.now))) }
+    ensures err { IfErr result (λ bad. (bad.status ≡ 4) ⊎ ((bad.status ≡ 2) × IsMisread (found_of matches.now))) }
 {
     let room = match room(matches) {
         Ok(room) => room,
         Err(text) => return Err(BadLine::of_no_room(alloc, text)),
     };
-    match values(alloc, matches, room) {
-        Ok(settings) => Ok(settings),
-        Err(_) => Err(BadLine::memory(alloc)),
+    let from = match time(matches) {
+        Ok(from) => from,
+        Err(text) => return Err(BadLine::of_no_time(alloc, text)),
+    };
+    let speed = match speed(matches) {
+        Ok(speed) => speed,
+        Err(text) => return Err(BadLine::of_no_speed(alloc, text)),
+    };
+    let Ok(settings) = values(alloc, matches, room, from, speed) else {
+        return Err(BadLine::memory(alloc));
+    };
+    if plays_nothing(&settings) {
+        return Err(BadLine::of_no_recording(alloc));
     }
+    Ok(settings)
 }
 
 fn values(
     alloc: Global,
     matches: &ArgMatches<'_>,
     room: Option<Room>,
+    from: Option<ClockTime>,
+    speed: Option<Speed>,
 ) -> Result<Settings, AllocError>
     requires values { HasValues (found_of matches.now) }
     requires room { IsRoom (first_value (found_of matches.now) (codes "room")) room }
+    requires from { IsTime (first_value (found_of matches.now) (codes "from")) from }
+    requires speed { IsSpeed (first_value (found_of matches.now) (codes "speed")) speed }
     ensures { IfOk result (λ s. AreValuesOf (found_of matches.now) s) }
 {
     Ok(Settings {
@@ -73,6 +106,7 @@ fn values(
         view_places: places(matches, "view-places"),
         room,
         plain_runs: flag(matches, "plain-runs"),
+        no_zrle: flag(matches, "no-zrle"),
         web_full: optional_port(matches, "web-full"),
         web_view: optional_port(matches, "web-view"),
         web_root: optional_text(alloc, matches, "web-root")?,
@@ -81,6 +115,8 @@ fn values(
         proxy_from: optional_text(alloc, matches, "proxy-from")?,
         log: flag(matches, "log"),
         again: pause(matches, "again"),
+        from,
+        speed,
         stalled: seconds(matches, "stalled"),
         control: optional_text(alloc, matches, "control")?,
         recording: optional_text(alloc, matches, "record")?,
@@ -161,6 +197,36 @@ fn room<'m>(matches: &'m ArgMatches<'_>) -> Result<Option<Room>, &'m str>
     match matches.get_str("room") {
         Some(text) => match Room::read(text) {
             Some(room) => Ok(Some(room)),
+            None => Err(text),
+        },
+        None => Ok(None),
+    }
+}
+
+/// The time of the option, if it is given, or its text where that is of none.
+#[tactic(auto, using(crate::proofs::Rooms::is_time, crate::proofs::Rooms::is_no_time_told))]
+fn time<'m>(matches: &'m ArgMatches<'_>) -> Result<Option<ClockTime>, &'m str>
+    ensures ok { IfOk result (λ time. IsTime (first_value (found_of matches.now) (codes "from")) time) }
+    ensures err { IfErr result (λ text. (first_value (found_of matches.now) (codes "from") ≡ Some text.now) × IsNoTime text.now) }
+{
+    match matches.get_str("from") {
+        Some(text) => match ClockTime::read(text) {
+            Some(time) => Ok(Some(time)),
+            None => Err(text),
+        },
+        None => Ok(None),
+    }
+}
+
+/// The speed of the option, if it is given, or its text where that is of none.
+#[tactic(auto, using(crate::proofs::Rooms::is_speed, crate::proofs::Rooms::is_no_speed_told))]
+fn speed<'m>(matches: &'m ArgMatches<'_>) -> Result<Option<Speed>, &'m str>
+    ensures ok { IfOk result (λ speed. IsSpeed (first_value (found_of matches.now) (codes "speed")) speed) }
+    ensures err { IfErr result (λ text. (first_value (found_of matches.now) (codes "speed") ≡ Some text.now) × IsNoSpeed text.now) }
+{
+    match matches.get_str("speed") {
+        Some(text) => match Speed::read(text) {
+            Some(speed) => Ok(Some(speed)),
             None => Err(text),
         },
         None => Ok(None),

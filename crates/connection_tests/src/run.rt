@@ -22,6 +22,7 @@ use std::sync::{Arc, Wait};
 use std::test::Fail;
 use std::thread::Threads;
 use std::time::Clock;
+use viewer_session::AnswerForm;
 
 /// The two ends of the host's link: the one that is read, and the one that is told.
 fn host_ends(alloc: Global, board: &Arc<Board, Global>) -> Result<(Wire, Wire), Fault>
@@ -99,7 +100,10 @@ where
         },
         NoHosts,
         doors,
-        Runs::Joined,
+        AnswerForm {
+            runs: Runs::Joined,
+            zrle: false,
+        },
         everyone,
         alarm,
         input,

@@ -1,5 +1,5 @@
-//! Tests of what operators, machines and balancers are told and ask: `run_control`, `run_reports`, `metrics_site`,
-//! `proxy_header` and `notify`, which are in their own crate so that each of those is proved once.
+//! Tests of what operators, machines and balancers are told and ask: `run_control`, `play_control`, `run_reports`,
+//! `metrics_site`, `proxy_header` and `notify`, which are in their own crate so that each of those is proved once.
 #![tactic(auto)]
 
 #[cfg(test)]
@@ -10,6 +10,8 @@ mod metrics;
 mod notifying;
 #[cfg(test)]
 mod origins;
+#[cfg(test)]
+mod playing;
 #[cfg(test)]
 mod reports;
 #[cfg(test)]

@@ -3,7 +3,8 @@
 use roles::Role;
 use run_control::Entry;
 use run_reports::{
-    HostReport, RecordingReport, RecordingState, Report, ViewerReport, state_json, state_text,
+    HostReport, PlayedReport, RecordingReport, RecordingState, Report, ViewerReport, state_json,
+    state_text,
 };
 use serde_json::Value;
 use std::test::Fail;
@@ -13,6 +14,7 @@ places role=full places=4
 places role=view places=32
 input waiting=256 dropped=3
 host address=127.0.0.1:5907 width=1280 height=800 seconds=3600 silent=2 updates=77 name=\"desk of \\\"x\\\"\"
+played time=00:12:34 paused=yes
 recording state=on seconds=61 bytes=96
 viewer place=1 role=full address=192.0.2.9:50000 seconds=12 updates=34 bytes=5678 behind=0 asked=no
 viewer place=7 role=view address=- seconds=0 updates=0 bytes=0 behind=77 asked=yes
@@ -53,6 +55,10 @@ fn report<'a>(viewers: &'a [ViewerReport<'a>]) -> Report<'a> {
             silent: 2,
             updates: 77,
         }),
+        played: Some(PlayedReport {
+            time: "00:12:34",
+            is_paused: true,
+        }),
         full_places: 4,
         view_places: 32,
         waiting: 256,
@@ -73,6 +79,7 @@ fn each_viewer_has_its_line(rt: HostRuntime) -> Result<(), Fail> {
     let mut empty = report(&[]);
     empty.host = None;
     empty.recording = None;
+    empty.played = None;
     empty.entry = Entry::Open;
     let text = state_text(rt.alloc(), &empty)?;
     assert_eq!(rt;
@@ -165,6 +172,7 @@ fn the_same_stands_in_json(rt: HostRuntime) -> Result<(), Fail> {
     let mut empty = report(&[]);
     empty.host = None;
     empty.recording = None;
+    empty.played = None;
     let text = state_json(rt.alloc(), &empty)?;
     let value = Value::from_str(rt.alloc(), text.as_str())?;
     assert!(rt; value.pointer("/host").is_some_and(Value::is_null));

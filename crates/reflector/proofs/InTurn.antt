@@ -5,7 +5,7 @@ use Rattle.std.proofs.lemmas.List.{map-append}
 use Rattle.roles.specs.Strokes.{StrokesKept, StrokesStand, Taken}
 use Rattle.link.specs.Links.{LinkState}
 use Rattle.run_traits.specs.Unused.{unused}
-use Rattle.host_writer.specs.Writing.{Did, WritesSoFar, all_taken, last_said, said, says, taken_from, taken_in}
+use Rattle.host_writer.specs.Writing.{Did, TellsSoFar, all_taken, last_said, said, says, taken_from, taken_in}
 use Rattle.input_relay.specs.declared.queue.Message.{Message}
 use Rattle.reflector.specs.Tellings.{AreTellings, AreToldInTurn, Desk, IsTelling, IsToldOver, TellsHosts, desk}
 
@@ -33,7 +33,7 @@ last_within before w h [] = omega arith
 last_within before w h (d ∷ did) = let count = length-append (said before w h did) (says before w h d did) in omega (arith, count)
 
 told_over : {S : Type 0} (looks : S → ℕ → S → Type 0) (a b : S) (x y : List Message) (s t : StrokesKept) (w h : ℕ) (came left : LinkState) (before : List Taken) → StrokesStand s before → came ≡ unused
-    → (k : WritesSoFar looks a b x y s t w h came left) → IsToldOver w h before k.did came left
+    → (k : TellsSoFar looks a b x y s t w h came left) → IsToldOver w h before k.did came left
 told_over looks a b x y s t w h came left before stand fresh k =
     let says = k.said before stand in
     let first = k.within in
@@ -43,8 +43,8 @@ told_over looks a b x y s t w h came left before stand fresh k =
     record { given = g.0; gave = g.1; begins = (k.left, sym says.0 ∙ g.2); heard = k.taken; fresh = fresh }
 
 -- What is written of a screen is written of one of that size.
-sized : {S : Type 0} (looks : S → ℕ → S → Type 0) (a b : S) (x y : List Message) (s t : StrokesKept) (w h w' h' : ℕ) (came left : LinkState) → w ≡ w' → h ≡ h' → WritesSoFar looks a b x y s t w h came left → WritesSoFar looks a b x y s t w' h' came left
-sized looks a b x y s t w h w' h' came left ew eh k = subst (λ n. WritesSoFar looks a b x y s t w' n came left) eh (subst (λ n. WritesSoFar looks a b x y s t n h came left) ew k)
+sized : {S : Type 0} (looks : S → ℕ → S → Type 0) (a b : S) (x y : List Message) (s t : StrokesKept) (w h w' h' : ℕ) (came left : LinkState) → w ≡ w' → h ≡ h' → TellsSoFar looks a b x y s t w h came left → TellsSoFar looks a b x y s t w' h' came left
+sized looks a b x y s t w h w' h' came left ew eh k = subst (λ n. TellsSoFar looks a b x y s t w' n came left) eh (subst (λ n. TellsSoFar looks a b x y s t n h came left) ew k)
 
 -- One host more.
 told_on : (w h : ℕ) (before : List Taken) (links : List LinkState) (taken : List Message) (did : List Did) (came left : LinkState) → AreToldInTurn w h before links taken → IsToldOver w h (before ++ map taken_from taken) did came left
@@ -72,7 +72,7 @@ abbrev AreTold : {S : Type 0} → (w h : ℕ) → Desk S → Type 0
 AreTold {S} w h d = AreToldInTurn w h [] d.links d.taken × StrokesStand d.strokes (map taken_from d.taken)
 
 -- One more, to which was written what is said so far.
-told_more : {S : Type 0} (looks : S → ℕ → S → Type 0) (w h : ℕ) (before new : Desk S) (came left : LinkState) → AreTold w h before → came ≡ unused → WritesSoFar looks before.source new.source before.taken new.taken before.strokes new.strokes w h came left
+told_more : {S : Type 0} (looks : S → ℕ → S → Type 0) (w h : ℕ) (before new : Desk S) (came left : LinkState) → AreTold w h before → came ≡ unused → TellsSoFar looks before.source new.source before.taken new.taken before.strokes new.strokes w h came left
     → new.links ≡ before.links ++ came ∷ left ∷ [] → AreTold w h new
 told_more looks w h before new came left so fresh k noted =
     let over = told_over looks _ _ _ _ _ _ w h came left (map taken_from before.taken) so.1 fresh k in
@@ -100,7 +100,7 @@ module _ {S : Type 0} (looks : S → ℕ → S → Type 0) (width height : S →
 
   -- While one more is told.
   pub in_turn_with : (source : S) (first : List Message) (began : StrokesKept) (before new : Desk S) (came left : LinkState) → IsTelling looks width height (desk [] source first began) before → first ≡ [] → StrokesStand began [] → came ≡ unused
-      → WritesSoFar looks before.source new.source before.taken new.taken before.strokes new.strokes (width before.source) (height before.source) came left → new.links ≡ before.links ++ came ∷ left ∷ [] → AreToldInTurn w h [] new.links new.taken
+      → TellsSoFar looks before.source new.source before.taken new.taken before.strokes new.strokes (width before.source) (height before.source) came left → new.links ≡ before.links ++ came ∷ left ∷ [] → AreToldInTurn w h [] new.links new.taken
   in_turn_with source first began before new came left k nothing none fresh writes noted =
       let size = sizes before.source in
       (told_more looks w h before new came left (told_from source first began before nothing none k) fresh (sized looks _ _ _ _ _ _ _ _ w h came left size.0 size.1 writes) noted).0

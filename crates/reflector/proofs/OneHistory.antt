@@ -8,7 +8,7 @@ use Rattle.reflect_core.specs.Sequential.{Shared, Step, Look, Cut, Leads, Begins
 use Rattle.shared_screen.specs.History.{Change, Put, Raise, puts_of, tally_from, TakeTurns, step_of}
 use Rattle.shared_screen.specs.Reaches.{Reaches}
 use Rattle.shared_screen.proofs.Reaching.{leads-append, led_to}
-use Rattle.viewer_session.specs.Acts.{Act, Bytes, Turn, Written, Passed}
+use Rattle.viewer_session.specs.Acts.{Cutting, Act, Bytes, Turn, Written, Passed}
 use Rattle.viewer_session.proofs.Parts.{begins_on}
 use Rattle.viewer_server.specs.Serving.{HasCut, IsShown}
 use Rattle.reflector.specs.History.{own_steps, IsOneHistory, CutsNear, LooksFollow}
@@ -88,7 +88,7 @@ cuts_near_more : (m n : ℕ) (acts : List Act) → m ≤ n → CutsNear m acts �
 cuts_near_more m n [] le k = tt
 cuts_near_more m n (Bytes marks bytes ∷ acts) le k = cuts_near_more m n acts le k
 cuts_near_more m n (Turn looked None ∷ acts) le k = cuts_near_more m n acts le k
-cuts_near_more m n (Turn looked (Some c) ∷ acts) le k = let k0 = k.0 in (omega (arith, k0, le), cuts_near_more m n acts le k.1)
+cuts_near_more m n (Turn looked (Some cut) ∷ acts) le k = let k0 = k.0 in (omega (arith, k0, le), cuts_near_more m n acts le k.1)
 cuts_near_more m n (Written count ∷ acts) le k = cuts_near_more m n acts le k
 cuts_near_more m n (Passed ∷ acts) le k = cuts_near_more m n acts le k
 
@@ -119,8 +119,9 @@ followed_look us old before new acts looked k r =
       follow = (subst (λ (t : ℕ). CutsNear t acts) (sym replied) cuts, k.follow);
     }
 
-followed_cut : (us : List Update) (old behind new : Shared) (acts : List Act) (looked n : ℕ) → IsFollowed us old (Turn looked None ∷ acts) behind → cuts behind n new → Begins new.updates us → IsFollowed us old (Turn looked (Some n) ∷ acts) new
-followed_cut us old behind new acts looked n k c b =
+followed_cut : (us : List Update) (old behind new : Shared) (acts : List Act) (looked : ℕ) (cut : Cutting) → IsFollowed us old (Turn looked None ∷ acts) behind → cuts behind cut.number new → Begins new.updates us → IsFollowed us old (Turn looked (Some cut) ∷ acts) new
+followed_cut us old behind new acts looked cut k c b =
+    let n : ℕ = cut.number in
     let number = c.0 in
     let m = nearer behind new (Cut (view new.updates)) c.1 (cut_stays (view new.updates) new) k.near in
     let m0 = m.0 in let near = m.1.1 in
@@ -141,9 +142,9 @@ followed us old (Bytes marks bytes ∷ acts) new near k b = let f = followed us 
 followed us old (Turn looked None ∷ acts) new near k b =
     let r : looks k.0 looked new = subst (λ (t : Shared). looks k.0 looked t) (sym k.4) k.3 in
     followed_look us old k.0 new acts looked (followed us old acts k.0 near k.2 (begins_on _ _ _ (grown k.0 new (Look looked) r (look_stays looked new)) b)) r
-followed us old (Turn looked (Some n) ∷ acts) new near k b =
+followed us old (Turn looked (Some cut) ∷ acts) new near k b =
     let later = begins_on _ _ _ (grown k.1 new (Cut (view new.updates)) k.4.1 (cut_stays (view new.updates) new)) b in
-    followed_cut us old k.1 new acts looked n
+    followed_cut us old k.1 new acts looked cut
     (followed_look us old k.0 k.1 acts looked (followed us old acts k.0 near k.2 (begins_on _ _ _ (grown k.0 k.1 (Look looked) k.3 (look_stays looked k.1)) later)) k.3) k.4 b
 followed us old (Written count ∷ acts) new near k b = let f = followed us old acts new near k b in record { history = f.history; near = f.near; cuts = f.cuts; follow = f.follow }
 followed us old (Passed ∷ acts) new near k b = let f = followed us old acts new near k b in record { history = f.history; near = f.near; cuts = f.cuts; follow = f.follow }

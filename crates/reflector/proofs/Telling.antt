@@ -6,7 +6,7 @@ use Rattle.fault.specs.declared.kinds.Fault.{Fault}
 use Rattle.roles.specs.Strokes.{StrokesKept, StrokesStand}
 use Rattle.link.specs.Links.{LinkState}
 use Rattle.run_traits.specs.Unused.{unused}
-use Rattle.host_writer.specs.Writing.{Writes}
+use Rattle.host_writer.specs.Writing.{Tells}
 use Rattle.input_relay.specs.declared.queue.Message.{Message}
 use Rattle.reflector.specs.Tellings.{Desk, desk, AreTellings, IsTelling, HasTold, TellsHosts}
 
@@ -23,7 +23,7 @@ module _ {S : Type 0} (looks : S → ℕ → S → Type 0) (width height : S →
 
   -- A link came, and was left.
   pub telling_on : (old before : Desk S) (links : List LinkState) (source : S) (taken : List Message) (strokes : StrokesKept) (came left : LinkState) (answer : Result (Unit {0}) Fault) → IsTelling looks width height old before → came ≡ unused
-      → Writes looks ⊤ before.source source before.taken taken before.strokes strokes (width before.source) (height before.source) answer came left → links ≡ before.links ++ came ∷ left ∷ [] → IsTelling looks width height old (desk links source taken strokes)
+      → Tells looks ⊤ before.source source before.taken taken before.strokes strokes (width before.source) (height before.source) answer came left → links ≡ before.links ++ came ∷ left ∷ [] → IsTelling looks width height old (desk links source taken strokes)
   telling_on old before links source taken strokes came left answer k fresh writes noted =
       (before ∷ k.0, (k.1, record { came = came; left = left; answer = answer; links = noted; fresh = fresh; writes = writes }))
 

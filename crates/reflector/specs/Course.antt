@@ -2,8 +2,8 @@
 use Rattle.std.specs.Prelude.{◌≤◌, ℕ, false, List, [], Option, None, Ok, ⊤}
 use Rattle.raster.specs.Update.{Update}
 use Rattle.rfb_wire.specs.Handshake.{Joined}
-use Rattle.joined_runs.specs.declared.runs.Runs.{Runs}
 use Rattle.joined_runs.specs.declared.runs.Runs.TheVariants.{OfRows}
+use Rattle.viewer_session.specs.declared.form.AnswerForm.{AnswerForm}
 use Rattle.roles.specs.declared.role.Role.{Role}
 use Rattle.link.specs.Links.{LinkState}
 use Rattle.link.specs.Joins.{Joins}
@@ -23,7 +23,7 @@ pub record Course : Type 0 where
   pub room_width : ℕ
   pub room_height : ℕ
   pub password : Option (List ℕ)
-  pub form : Runs
+  pub form : AnswerForm
   pub roles : List Role
   pub last_end : Ending
   pub came : Coming
@@ -49,7 +49,7 @@ no_course = record {
   room_width = 0;
   room_height = 0;
   password = None;
-  form = OfRows;
+  form = record { runs = OfRows; zrle = false };
   roles = [];
   last_end = record { answer = Ok tt; has_called = false };
   came = came_over false unused;

@@ -11,7 +11,7 @@ abbrev pub own_steps : List Update → List Act → List Step
 own_steps us [] = []
 own_steps us (Bytes marks bytes ∷ acts) = own_steps us acts
 own_steps us (Turn looked None ∷ acts) = own_steps us acts ++ Look looked ∷ []
-own_steps us (Turn looked (Some n) ∷ acts) = own_steps us acts ++ Look looked ∷ Cut (view (take n us)) ∷ []
+own_steps us (Turn looked (Some cut) ∷ acts) = own_steps us acts ++ Look looked ∷ Cut (view (take cut.number us)) ∷ []
 own_steps us (Written count ∷ acts) = own_steps us acts
 own_steps us (Passed ∷ acts) = own_steps us acts
 
@@ -26,7 +26,7 @@ abbrev pub CutsNear : ℕ → List Act → Type 0
 CutsNear n [] = Unit {0}
 CutsNear n (Bytes marks bytes ∷ acts) = CutsNear n acts
 CutsNear n (Turn looked None ∷ acts) = CutsNear n acts
-CutsNear n (Turn looked (Some k) ∷ acts) = (k ≤ n + 1) × CutsNear n acts
+CutsNear n (Turn looked (Some cut) ∷ acts) = (cut.number ≤ n + 1) × CutsNear n acts
 CutsNear n (Written count ∷ acts) = CutsNear n acts
 CutsNear n (Passed ∷ acts) = CutsNear n acts
 

@@ -5,7 +5,7 @@ use Rattle.fault.specs.declared.kinds.Fault.{Fault}
 use Rattle.roles.specs.Strokes.{StrokesKept, StrokesStand, Taken}
 use Rattle.link.specs.Links.{LinkState}
 use Rattle.run_traits.specs.Unused.{unused}
-use Rattle.host_writer.specs.Writing.{Did, Writes, all_taken, said, taken_in}
+use Rattle.host_writer.specs.Writing.{Did, Tells, all_taken, said, taken_in}
 use Rattle.input_relay.specs.declared.queue.Message.{Message}
 
 -- How telling the hosts stands between two of them: the links so far, each as it came and then as it was left; the
@@ -19,14 +19,14 @@ pub record Desk (S : Type 0) : Type 0 where
 abbrev pub desk : {S : Type 0} → List LinkState → S → List Message → StrokesKept → Desk S
 desk links source taken strokes = record { links = links; source = source; taken = taken; strokes = strokes }
 
--- One more host was told, over one more link, which came unused, and to which was written what Writes says.
+-- One more host was told, over one more link, which came unused, and was given what Tells says.
 pub record Telling {S : Type 0} (looks : S → ℕ → S → Type 0) (width height : S → ℕ) (old new : Desk S) : Type 0 where
   pub came : LinkState
   pub left : LinkState
   pub answer : Result (Unit {0}) Fault
   pub links : new.links ≡ old.links ++ came ∷ left ∷ []
   pub fresh : came ≡ unused
-  pub writes : Writes looks ⊤ old.source new.source old.taken new.taken old.strokes new.strokes (width old.source) (height old.source) answer came left
+  pub writes : Tells looks ⊤ old.source new.source old.taken new.taken old.strokes new.strokes (width old.source) (height old.source) answer came left
 
 -- Hosts were told one after another. The list says how telling stood before each of them, the latest first.
 abbrev pub AreTellings : {S : Type 0} → (looks : S → ℕ → S → Type 0) → (width height : S → ℕ) → Desk S → List (Desk S) → Desk S → Type 0

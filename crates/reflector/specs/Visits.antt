@@ -5,7 +5,7 @@ use Rattle.fault.specs.declared.kinds.Fault.{Fault}
 use Rattle.fault.specs.declared.kinds.Fault.TheVariants.{Memory}
 use Rattle.raster.specs.declared.size.Size.{Size}
 use Rattle.raster.specs.Update.{Update}
-use Rattle.joined_runs.specs.declared.runs.Runs.{Runs}
+use Rattle.viewer_session.specs.declared.form.AnswerForm.{AnswerForm}
 use Rattle.roles.specs.Allowed.{Input}
 use Rattle.roles.specs.declared.role.Role.{Role}
 use Rattle.link.specs.Links.{LinkState}
@@ -30,12 +30,12 @@ name_of (b ∷ bs) = b ∷ bs
 
 -- A screen of this size and name, whose viewers are answered in this form, and told of the host's sizes, of which this
 -- is the first.
-abbrev pub setup_of : ℕ → ℕ → List ℕ → Runs → Size → Setup
-setup_of w h name form host = record { w = w; h = h; name = name; room = 0; runs = form; host = Some host }
+abbrev pub setup_of : ℕ → ℕ → List ℕ → AnswerForm → Size → Setup
+setup_of w h name form host = record { w = w; h = h; name = name; room = 0; runs = form.runs; host = Some host; zrle = form.zrle }
 
 -- The size and the name are those of a run's screen, the form is that in which all its viewers are answered, and the
 -- first size of which they are told is that of the host that was joined.
-abbrev pub IsOfScreen : (w h : ℕ) → (name : List ℕ) → (form : Runs) → (host : Size) → (width height : ℕ) → (told : List ℕ) → (answered : Runs) → (first : Size) → Type 0
+abbrev pub IsOfScreen : (w h : ℕ) → (name : List ℕ) → (form : AnswerForm) → (host : Size) → (width height : ℕ) → (told : List ℕ) → (answered : AnswerForm) → (first : Size) → Type 0
 IsOfScreen w h name form host width height told answered first =
     (width ≡ w) × (height ≡ h) × (told ≡ name_of name) × (answered ≡ form) × (first ≡ host)
 

@@ -27,7 +27,6 @@ use crate::writer::{HostsTold, WriterHandle, start_writer};
 use fault::Fault;
 use host_turns::{Ending, Handover, HostEnds, Hosts, RunScreen};
 use input_relay::{Sender, Taker, relay};
-use joined_runs::Runs;
 use link::{Link, Rest};
 use raster::Size;
 use reflect_core::{Puts, ScreenSource};
@@ -41,6 +40,7 @@ use std::snapshot::Snapshot;
 use std::sync::{Arc, Wait};
 use std::thread::Threads;
 use std::time::Clock;
+use viewer_session::AnswerForm;
 
 /// What a run leaves.
 pub struct Running<L, H, P, S: ScreenSource, D: Door, R: Wait + Drop> {
@@ -117,7 +117,7 @@ where
     ensures of { IfOk result (λ places. map (λ place. place.promise.sender.value) places.items ≡ senders.items) }
     ensures doors { IfOk result (λ places. map (λ place. (place.promise.role, place.promise.door.value)) places.items ≡ doors.items) }
     ensures watchers { IfOk result (λ places. map (λ place. place.promise.watcher.value) places.items ≡ watchers.items) }
-    ensures screen { IfOk result (λ places. All (λ place. IsOfScreen screen.now.w screen.now.h screen.now.name context.now.runs context.now.host place.promise.width place.promise.height place.promise.name.value.items place.promise.runs place.promise.host) places.items) }
+    ensures screen { IfOk result (λ places. All (λ place. IsOfScreen screen.now.w screen.now.h screen.now.name context.now.form context.now.host place.promise.width place.promise.height place.promise.name.value.items place.promise.form place.promise.host) places.items) }
     ensures err { IfErr result (λ fault. fault ≡ Memory) }
 {
     let mut places = Vec::new(context.alloc);
@@ -131,7 +131,7 @@ where
             screen.h,
             name,
             role,
-            context.runs,
+            context.form,
             context.host,
         )?;
         let place = start_place(context, maker, door, watcher, sender)?;
@@ -171,7 +171,7 @@ where
     ensures places { IfOk result (λ started. map (λ place. place.promise.sender.value) started.places.items ≡ senders.items) }
     ensures doors { IfOk result (λ started. map (λ place. (place.promise.role, place.promise.door.value)) started.places.items ≡ doors.items) }
     ensures watchers { IfOk result (λ started. map (λ place. place.promise.watcher.value) started.places.items ≡ drop 1 watchers.items) }
-    ensures screen { IfOk result (λ started. All (λ place. IsOfScreen screen.now.w screen.now.h screen.now.name context.now.runs context.now.host place.promise.width place.promise.height place.promise.name.value.items place.promise.runs place.promise.host) started.places.items) }
+    ensures screen { IfOk result (λ started. All (λ place. IsOfScreen screen.now.w screen.now.h screen.now.name context.now.form context.now.host place.promise.width place.promise.height place.promise.name.value.items place.promise.form place.promise.host) started.places.items) }
     ensures writer { IfOk result (λ started. (started.writer.promise.taker.value ≡ taker) × (started.writer.promise.source.value ≡ slice_index_or watchers.items 0 started.writer.promise.source.value) × StrokesStand started.writer.promise.strokes.value []) }
     ensures reader { IfOk result (λ started. (started.reader.promise.width ≡ screen.now.w) × (started.reader.promise.height ≡ screen.now.h) × (started.reader.promise.password ≡ context.now.password) × (started.reader.promise.has_called ≡ has_called) × (started.reader.promise.link.value ≡ first) × (started.reader.promise.publisher.value ≡ publisher) × (started.reader.promise.hosts.value ≡ hosts)) }
     ensures err { IfErr result (λ fault. fault ≡ Memory) }
@@ -307,7 +307,7 @@ where
     ensures told { IfOk result (λ run. (source : S) × (source ≡ slice_index_or watchers.items 0 source) × TellsHosts S.looks S.width S.height source (links_in L.state run.written) (taken_of run.taker) run.strokes) }
     ensures doors { IfOk result (λ run. map (λ place. (place.promise.role, place.promise.door.value)) run.places.items ≡ doors.items) }
     ensures watchers { IfOk result (λ run. map (λ place. place.promise.watcher.value) run.places.items ≡ drop 1 watchers.items) }
-    ensures screen { IfOk result (λ run. All (λ place. IsOfScreen screen.now.w screen.now.h screen.now.name context.now.runs context.now.host place.promise.width place.promise.height place.promise.name.value.items place.promise.runs place.promise.host) run.places.items) }
+    ensures screen { IfOk result (λ run. All (λ place. IsOfScreen screen.now.w screen.now.h screen.now.name context.now.form context.now.host place.promise.width place.promise.height place.promise.name.value.items place.promise.form place.promise.host) run.places.items) }
     ensures err { IfErr result (λ fault. fault ≡ Memory) }
 {
     let HostEnds {
@@ -357,7 +357,7 @@ fn screen_of(room: &RunScreen, host: Joined) -> Joined
 /// Hands out what the threads of a run left, with what shows that it was run. `C` names what the run was.
 fn shown<C, J, L, H, D, R>(
     began: &Beginning<L, D>,
-    runs: Runs,
+    form: AnswerForm,
     left: Left<L, H, Publisher<J, R>, Watcher<J>, D, R>,
 ) -> Running<L, H, Publisher<J, R>, Watcher<J>, D, R>
 where
@@ -367,7 +367,7 @@ where
     H: Hosts<L>,
     D: Door,
     R: Wait + Drop,
-    requires { C.course ≡ record { host = began.now.host.value; room_width = began.now.room.width; room_height = began.now.room.height; password = began.now.room.password; form = runs; roles = map (λ door. door.0) began.now.doors.value.items; last_end = left.last; came = came_over began.now.has_called (L.state began.now.link.value); links = map L.state left.links.items; told = links_in L.state left.written; taken = taken_of left.taker; updates = puts_of left.publisher.changes } }
+    requires { C.course ≡ record { host = began.now.host.value; room_width = began.now.room.width; room_height = began.now.room.height; password = began.now.room.password; form = form; roles = map (λ door. door.0) began.now.doors.value.items; last_end = left.last; came = came_over began.now.has_called (L.state began.now.link.value); links = map L.state left.links.items; told = links_in L.state left.written; taken = taken_of left.taker; updates = puts_of left.publisher.changes } }
     ensures ran { result.ran.course ≡ C.course }
     ensures last { result.last ≡ left.last }
     ensures links { result.links ≡ left.links }
@@ -447,7 +447,7 @@ pub fn run_all<J, L, H, D, B, W, R>(
     joined: Joined,
     hosts: H,
     doors: Vec<(Role, D)>,
-    runs: Runs,
+    form: AnswerForm,
     everyone: Arc<B, Global>,
     writer_bell: Arc<W, Global>,
     input: Arc<InputCounts, Global>,
@@ -477,8 +477,8 @@ where
     ensures dropped { IfOk result (λ run. run.dropped ≡ all_dropped (map taken_from (taken_of run.taker))) }
     ensures doors { IfOk result (λ run. map (λ place. (place.promise.role, place.promise.door.value)) run.places.items ≡ doors.items) }
     ensures watchers { IfOk result (λ run. All (λ place. place.promise.watcher.value ≡ nothing_put) run.places.items) }
-    ensures screen { IfOk result (λ run. All (λ place. IsOfScreen room.width room.height joined.name runs (record { width = joined.w; height = joined.h }) place.promise.width place.promise.height place.promise.name.value.items place.promise.runs place.promise.host) run.places.items) }
-    ensures ran { IfOk result (λ run. run.ran.course ≡ record { host = joined; room_width = room.width; room_height = room.height; password = room.password; form = runs; roles = map (λ door. door.0) doors.items; last_end = run.last; came = came_over ends.has_called (L.state ends.reader); links = map L.state run.links.items; told = links_in L.state run.written; taken = taken_of run.taker; updates = puts_of run.publisher.changes }) }
+    ensures screen { IfOk result (λ run. All (λ place. IsOfScreen room.width room.height joined.name form (record { width = joined.w; height = joined.h }) place.promise.width place.promise.height place.promise.name.value.items place.promise.form place.promise.host) run.places.items) }
+    ensures ran { IfOk result (λ run. run.ran.course ≡ record { host = joined; room_width = room.width; room_height = room.height; password = room.password; form = form; roles = map (λ door. door.0) doors.items; last_end = run.last; came = came_over ends.has_called (L.state ends.reader); links = map L.state run.links.items; told = links_in L.state run.written; taken = taken_of run.taker; updates = puts_of run.publisher.changes }) }
     ensures err { IfErr result (λ fault. (fault ≡ Memory) ⊎ (fault ≡ NoPlace)) }
 {
     let first = size_of(&joined);
@@ -495,7 +495,7 @@ where
         rt,
         alloc,
         password: room.password,
-        runs,
+        form,
         host: first,
         everyone,
         writer: writer_bell,
@@ -512,5 +512,5 @@ where
     )?;
     let screen = screen_of(&room, joined);
     let left = run_over(&context, ends, &screen, hosts, doors, publisher, watchers)?;
-    Ok(shown::<Brand, J, L, H, D, R>(&began, runs, left))
+    Ok(shown::<Brand, J, L, H, D, R>(&began, form, left))
 }

@@ -8,11 +8,10 @@ ghost use Rattle.viewer_session.specs.Viewer.{Setup, new_viewer};
 ghost use Rattle.reflector.specs.Visits.{name_of};
 
 use fault::Fault;
-use joined_runs::Runs;
 use raster::Size;
 use roles::Role;
 use std::alloc::Global;
-use viewer_session::Session;
+use viewer_session::{AnswerForm, Session};
 
 /// The name of a screen whose host has none. A viewer is told at least one byte.
 const NO_NAME: &[u8] = b"reflectord";
@@ -26,7 +25,7 @@ pub struct SessionMaker {
     pub(crate) height: u64,
     pub(crate) name: Vec<u8>,
     pub(crate) role: Role,
-    pub(crate) runs: Runs,
+    pub(crate) form: AnswerForm,
     pub(crate) host: Size,
     pub(crate) ghost size: { IsScreenSize width height },
     pub(crate) ghost named: { (1 ≤ length name.items) × (length name.items ≤ 255) },
@@ -40,14 +39,14 @@ impl SessionMaker {
         height: u64,
         name: &[u8],
         role: Role,
-        runs: Runs,
+        form: AnswerForm,
         host: Size,
     ) -> Result<SessionMaker, Fault>
         requires size { IsScreenSize width height }
         requires name { length name.now ≤ 255 }
         ensures size { IfOk result (λ maker. (maker.width ≡ width) × (maker.height ≡ height)) }
         ensures named { IfOk result (λ maker. (maker.role ≡ role) × (maker.name.items ≡ name_of name.now)) }
-        ensures formed { IfOk result (λ maker. (maker.runs ≡ runs) × (maker.host ≡ host)) }
+        ensures formed { IfOk result (λ maker. (maker.form ≡ form) × (maker.host ≡ host)) }
         ensures err { IfErr result (λ fault. fault ≡ Memory) }
     {
         let name = if name.is_empty() { NO_NAME } else { name };
@@ -58,7 +57,7 @@ impl SessionMaker {
             height,
             name,
             role,
-            runs,
+            form,
             host,
         })
     }
@@ -67,7 +66,7 @@ impl SessionMaker {
     pub(crate) fn open(&self) -> Result<Session, Fault>
         ensures size { IfOk result (λ session. (session.width ≡ self.now.width) × (session.height ≡ self.now.height)) }
         ensures uncut { IfOk result (λ session. session.asked.last ≡ None) }
-        ensures stands { IfOk result (λ session. (s : Setup) → s.w ≡ self.now.width → s.h ≡ self.now.height → s.name ≡ self.now.name.items → s.runs ≡ self.now.runs → s.host ≡ Some self.now.host → Stands s session (new_viewer self.now.role true)) }
+        ensures stands { IfOk result (λ session. (s : Setup) → s.w ≡ self.now.width → s.h ≡ self.now.height → s.name ≡ self.now.name.items → s.runs ≡ self.now.form.runs → s.host ≡ Some self.now.host → s.zrle ≡ self.now.form.zrle → Stands s session (new_viewer self.now.role true)) }
         ensures err { IfErr result (λ fault. fault ≡ Memory) }
     {
         Session::open(
@@ -76,7 +75,7 @@ impl SessionMaker {
             self.height,
             self.name.as_slice(),
             self.role,
-            self.runs,
+            self.form,
             Some(self.host),
         )
     }

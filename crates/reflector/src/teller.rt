@@ -8,7 +8,7 @@ ghost use Rattle.link.specs.Links.{LinkState};
 ghost use Rattle.run_traits.specs.Unused.{unused};
 ghost use Rattle.host_writer.specs.Dropping.{IsCounted};
 ghost use Rattle.host_writer.specs.Saying.{begun};
-ghost use Rattle.host_writer.specs.Writing.{Writes, whole_request};
+ghost use Rattle.host_writer.specs.Writing.{Tells, whole_request};
 ghost use Rattle.reflector.specs.Tellings.{AreToldInTurn, HasTold, IsTelling, desk};
 ghost use Rattle.run_traits.specs.Written.{links_in};
 
@@ -241,7 +241,7 @@ impl<'a, 'b, L: Link, S: ScreenSource, K: InputSource, D: DropCount, T: Drop> Bu
         why: Result<(), Fault>,
     ) -> FreeTeller<'a, L, S, K, D, T>
         requires first { telling.first ≡ self.began }
-        requires writes { Writes S.looks ⊤ self.began.now.source.value telling.source (K.taken self.began.now.taker.value) (K.taken telling.taker) self.began.now.strokes.value telling.strokes (S.width self.began.now.source.value) (S.height self.began.now.source.value) why (L.state self.began.now.link.value) (L.state telling.link) }
+        requires writes { Tells S.looks ⊤ self.began.now.source.value telling.source (K.taken self.began.now.taker.value) (K.taken telling.taker) self.began.now.strokes.value telling.strokes (S.width self.began.now.source.value) (S.height self.began.now.source.value) why (L.state self.began.now.link.value) (L.state telling.link) }
         ensures left { links_in L.state result.written ≡ links_in L.state self.entry.written ++ L.state telling.entry.link ∷ [] }
         ensures parts { (result.source ≡ telling.entry.source) × (result.taker ≡ telling.entry.taker) × (result.strokes ≡ telling.entry.strokes) × (result.drops ≡ telling.entry.drops) }
         ensures first { result.first ≡ self.entry.first }

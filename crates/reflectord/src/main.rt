@@ -24,7 +24,7 @@ where
         + Clock
         + RandomSource
         + Env
-        + Files<File = File>
+        + Files<File = File, Dir: Send>
         + AllocGlobal
         + Print
         + Eprint

@@ -8,6 +8,7 @@ use Rattle.run_control.specs.declared.doors.Entry.{Entry}
 use Rattle.run_control.specs.declared.doors.Entry.TheVariants.{Open, Drained, Closed}
 use Rattle.run_reports.specs.declared.report.HostReport.{HostReport}
 use Rattle.run_reports.specs.declared.report.ViewerReport.{ViewerReport}
+use Rattle.run_reports.specs.declared.report.PlayedReport.{PlayedReport}
 use Rattle.run_reports.specs.declared.report.RecordingReport.{RecordingReport}
 use Rattle.run_reports.specs.declared.report.RecordingState.{RecordingState}
 use Rattle.run_reports.specs.declared.report.RecordingState.TheVariants.{Awaited, On, Ended, Failed}
@@ -44,6 +45,11 @@ abbrev pub after_whoever : List ℕ → Option HostReport → List ℕ
 after_whoever before None = before ++ codes "host none\n"
 after_whoever before (Some h) = after_host before h
 
+-- A run whose host is no recording has no line for that.
+abbrev pub after_played : List ℕ → Option PlayedReport → List ℕ
+after_played before None = before
+after_played before (Some p) = before ++ codes "played time=" ++ p.time.now ++ codes " paused=" ++ yes_word p.is_paused ++ codes "\n"
+
 abbrev pub recording_word : RecordingState → List ℕ
 recording_word Awaited = codes "awaited"
 recording_word On = codes "on"
@@ -73,4 +79,4 @@ after_viewers before [] = before
 after_viewers before (v ∷ vs) = after_viewers (after_viewer before v) vs
 
 abbrev pub state_lines : Report → List ℕ
-state_lines r = after_viewers (after_recording (after_whoever (after_input (after_places [] r) r) r.host) r.recording) r.viewers.now
+state_lines r = after_viewers (after_recording (after_played (after_whoever (after_input (after_places [] r) r) r.host) r.played) r.recording) r.viewers.now

@@ -1,7 +1,7 @@
 //! How a run stands, as one object of JSON.
 
 use crate::lines::{entry_word, recording_word, role_word};
-use crate::report::{HostReport, RecordingReport, Report, ViewerReport};
+use crate::report::{HostReport, PlayedReport, RecordingReport, Report, ViewerReport};
 use serde_json::{Value, json};
 use std::alloc::{AllocError, Global};
 
@@ -31,6 +31,13 @@ fn viewer_value(alloc: Global, viewer: &ViewerReport<'_>) -> Result<Value, Alloc
     })
 }
 
+fn played_value(alloc: Global, played: &PlayedReport<'_>) -> Result<Value, AllocError> {
+    json!(in alloc; {
+        "time": played.time,
+        "paused": played.is_paused
+    })
+}
+
 fn recording_value(alloc: Global, recording: &RecordingReport) -> Result<Value, AllocError> {
     let state = recording_word(recording.state);
     json!(in alloc; {
@@ -52,6 +59,10 @@ pub fn state_json(alloc: Global, report: &Report<'_>) -> Result<String, AllocErr
         Some(host) => host_value(alloc, host)?,
         None => Value::Null,
     };
+    let played = match &report.played {
+        Some(played) => played_value(alloc, played)?,
+        None => Value::Null,
+    };
     let recording = match &report.recording {
         Some(recording) => recording_value(alloc, recording)?,
         None => Value::Null,
@@ -64,6 +75,7 @@ pub fn state_json(alloc: Global, report: &Report<'_>) -> Result<String, AllocErr
         "waiting": report.waiting,
         "dropped": report.dropped,
         "host": host,
+        "played": played,
         "recording": recording,
         "viewers": viewers
     })?;

@@ -25,5 +25,5 @@ pub use json::state_json;
 pub use ledger::{Ledger, Paper};
 pub use metrics::metrics_text;
 pub use notice::{Notice, Ready, notice_text};
-pub use report::{HostReport, RecordingReport, RecordingState, Report, ViewerReport};
+pub use report::{HostReport, PlayedReport, RecordingReport, RecordingState, Report, ViewerReport};
 pub use state::state_text;

@@ -66,6 +66,15 @@ pub struct RecordingReport {
     pub bytes: u64,
 }
 
+/// A recording that is played as the host.
+#[derive(Clone, Copy, Debug)]
+pub struct PlayedReport<'a> {
+    /// The time up to which it is played, as text.
+    pub time: &'a str,
+    /// Whether it rests.
+    pub is_paused: bool,
+}
+
 /// How a run stands.
 #[derive(Clone, Copy, Debug)]
 pub struct Report<'a> {
@@ -73,6 +82,8 @@ pub struct Report<'a> {
     pub entry: Entry,
     /// The host, if one is joined.
     pub host: Option<HostReport<'a>>,
+    /// The recording that is played, if one is.
+    pub played: Option<PlayedReport<'a>>,
     /// How many places there are for viewers with full control.
     pub full_places: u64,
     /// How many places there are for viewers that only look on.

@@ -2,10 +2,10 @@
 
 ghost use Rattle.std.specs.Prelude.{◌≡◌, IfOk, OnOk};
 ghost use Rattle.std.specs.String.{string_bytes};
-ghost use Rattle.run_reports.specs.State.{after_counts, after_host, after_input, after_place, after_places, after_recording, after_viewer, after_viewers, after_whoever, state_lines};
+ghost use Rattle.run_reports.specs.State.{after_counts, after_host, after_input, after_place, after_places, after_played, after_recording, after_viewer, after_viewers, after_whoever, state_lines};
 
 use crate::lines::{entry_word, put_number, put_word, recording_word, role_word, yes_word};
-use crate::report::{HostReport, RecordingReport, Report, ViewerReport};
+use crate::report::{HostReport, PlayedReport, RecordingReport, Report, ViewerReport};
 use std::alloc::{AllocError, Global};
 
 /// Puts the line of a host.
@@ -91,6 +91,18 @@ fn put_whoever(text: &mut String, host: &Option<HostReport<'_>>) -> Result<(), A
     }
 }
 
+/// Puts the line of the recording that is played, where one is.
+fn put_played(text: &mut String, played: &Option<PlayedReport<'_>>) -> Result<(), AllocError>
+    ensures { OnOk result (string_bytes text.new ≡ after_played (string_bytes text.old) played.now) }
+{
+    let Some(played) = played else {
+        return Ok(());
+    };
+    put_word(text, "played time=", played.time)?;
+    put_word(text, " paused=", yes_word(played.is_paused))?;
+    text.push_str("\n")
+}
+
 /// Puts the line of the recording, where the run is recorded.
 fn put_recording(text: &mut String, recording: &Option<RecordingReport>) -> Result<(), AllocError>
     ensures { OnOk result (string_bytes text.new ≡ after_recording (string_bytes text.old) recording.now) }
@@ -112,6 +124,7 @@ pub fn state_text(alloc: Global, report: &Report<'_>) -> Result<String, AllocErr
     put_places(&mut text, report)?;
     put_input(&mut text, report)?;
     put_whoever(&mut text, &report.host)?;
+    put_played(&mut text, &report.played)?;
     put_recording(&mut text, &report.recording)?;
     put_viewers(&mut text, report.viewers)?;
     Ok(text)

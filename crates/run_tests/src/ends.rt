@@ -30,6 +30,7 @@ use std::test::Fail;
 use std::thread::Threads;
 use std::time::Clock;
 use tiles::Have;
+use viewer_session::AnswerForm;
 
 /// How a run is to end: with a fault of this number, or with none, 0; with this many links handed back; with this
 /// update, its last; with this many inputs that were dropped, and this many that weren't taken.
@@ -217,7 +218,10 @@ where
         },
         hosts,
         doors,
-        Runs::Joined,
+        AnswerForm {
+            runs: Runs::Joined,
+            zrle: false,
+        },
         everyone,
         alarm,
         Arc::try_clone(&input)?,

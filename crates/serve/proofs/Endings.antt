@@ -3,17 +3,16 @@ use Rattle.std.proofs.Common.{◌≡◌, ◌⊎◌, inl, inr, ⊎_elim, ℕ, Boo
 use Rattle.std.specs.Prelude.{IfOk, IfSome, is_some}
 use Rattle.fault.specs.declared.kinds.Fault.{Fault}
 use Rattle.fault.specs.declared.kinds.Fault.TheVariants as fault
-use Rattle.joined_runs.specs.declared.runs.Runs.{Runs}
+use Rattle.viewer_session.specs.declared.form.AnswerForm.{AnswerForm}
 use Rattle.rfb_wire.specs.Handshake.{Joined}
 use Rattle.roles.specs.declared.role.Role.{Role}
-use Rattle.settings.specs.ByRole.{runs_for}
 use Rattle.settings.specs.Rooms.{IsRoomFor}
 use Rattle.settings.specs.declared.values.Settings.{Settings}
 use Rattle.host_turns.specs.declared.ending.Ending.{Ending}
 use Rattle.host_turns.specs.Running.{goes_on, goes_on_after}
 use Rattle.reflector.specs.Course.{IsReflected}
 use Rattle.reflector.specs.declared.ran.Ran.{Ran}
-use Rattle.serve.specs.Runs.{IsEnd, IsEndBy, IsRunBy, IsRunFor, IsServed, IsToldBy, roles_for}
+use Rattle.serve.specs.Runs.{IsEnd, IsEndBy, IsRunBy, IsRunFor, IsServed, IsToldBy, form_for, roles_for}
 use Rattle.serve.specs.Statuses.{IsStatus, status_for}
 use Rattle.serve.specs.Turns.{MayEnd}
 use Rattle.serve.specs.declared.ended.Ended.{Ended}
@@ -61,9 +60,9 @@ went_well last e = went_well_after last.has_called last.answer e
 -- ---- a run
 
 -- What `over` says of a run, with the room, a password, the roles and the form of the settings.
-pub run_by : {A : Type 0} (settings : Settings) (result : Result Reflected Fault) (host : Joined) (width height : ℕ) (password : Option (List ℕ)) (roles : List Role) (form : Runs) (again : Option A) → IfOk result (λ run. IsReflected run.ran.course)
+pub run_by : {A : Type 0} (settings : Settings) (result : Result Reflected Fault) (host : Joined) (width height : ℕ) (password : Option (List ℕ)) (roles : List Role) (form : AnswerForm) (again : Option A) → IfOk result (λ run. IsReflected run.ran.course)
     → IfOk result (λ run. (run.ran.course.host ≡ host) × (run.ran.course.room_width ≡ width) × (run.ran.course.room_height ≡ height) × (run.ran.course.password ≡ password)) → is_some password ≡ is_some settings.host_password → IfOk result (λ run. run.ran.course.roles ≡ roles)
-    → IfOk result (λ run. run.ran.course.form ≡ form) → IfOk result (λ run. run.last ≡ run.ran.course.last_end) → IfOk result (λ run. goes_on run.last ≡ true → again ≡ None) → IsRoomFor settings host.w host.h width height → roles ≡ roles_for settings → form ≡ runs_for settings
+    → IfOk result (λ run. run.ran.course.form ≡ form) → IfOk result (λ run. run.last ≡ run.ran.course.last_end) → IfOk result (λ run. goes_on run.last ≡ true → again ≡ None) → IsRoomFor settings host.w host.h width height → roles ≡ roles_for settings → form ≡ form_for settings
     → (again ≡ None → MayEnd settings) → IfOk result (λ run. IsRunBy settings run)
 run_by settings (Ok run) host width height password roles form again reflected has_room known has_roles has_form last never is_room same_roles same_form ends = record {
   is = record { reflected = reflected; room = rw (has_room.0, has_room.1, has_room.2) is_room; password = ap is_some has_room.3 ∙ known; roles = has_roles ∙ same_roles; form = has_form ∙ same_form };

@@ -1,9 +1,14 @@
 -- How the hosts of a run are met (own).
-use Rattle.std.specs.Prelude.{◌≡◌, ◌++◌, ◌∷◌, codes, List, map, ℕ}
+use Rattle.std.specs.Prelude.{◌≡◌, ◌++◌, ◌∷◌, Bool, codes, false, List, map, not, true, ℕ}
 use Rattle.std.specs.Net.Grammar.{IsSocketText}
 use Rattle.std.specs.String.{string_bytes}
 use Rattle.std.specs.declared.net.socket_addr.SocketAddr.{SocketAddr}
 use Rattle.settings.specs.declared.values.Settings.{Settings}
+use Rattle.link.specs.Links.{LinkState}
+use Rattle.connections.specs.Wires.{joining_state}
+use Rattle.player.specs.Played.{deaf_state}
+use Rattle.serve.specs.declared.host_end.HostEnd.{HostEnd}
+use Rattle.serve.specs.declared.host_end.HostEnd.TheVariants.{Tcp, Played, Deaf}
 
 -- A host calls at this address of the machine, where it is waited for: its text says the address after `listen:`. It is
 -- connected to where its text says anything else.
@@ -13,3 +18,22 @@ CallsAt text address = (said : List ℕ) × (text ≡ codes "listen:" ++ said) �
 -- The texts of the settings' hosts, in order.
 abbrev pub host_texts : Settings → List (List ℕ)
 host_texts settings = map string_bytes (settings.host ∷ settings.next.items)
+
+-- The ends of a host's connection.
+module _ {R : Type 0} where
+  abbrev pub end_state : HostEnd R → LinkState
+  end_state (Tcp link) = joining_state link
+  end_state (Played host) = host.own
+  end_state (Deaf link) = deaf_state link
+
+  -- It has no deadline. One of a recording never has.
+  abbrev pub is_untimed : HostEnd R → Bool
+  is_untimed (Tcp link) = not link.has_deadline
+  is_untimed (Played host) = true
+  is_untimed (Deaf link) = true
+
+  -- It was closed, so nothing comes over it any more.
+  abbrev pub is_closed : HostEnd R → Bool
+  is_closed (Tcp link) = not link.below.is_open
+  is_closed (Played host) = false
+  is_closed (Deaf link) = false

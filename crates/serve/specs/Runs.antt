@@ -1,5 +1,5 @@
 -- What is known of a run that `serve` ran, and how its exit status says how the run ended (own).
-use Rattle.std.specs.Prelude.{◌≡◌, ◌⊎◌, ◌++◌, ℕ, List, [], ◌∷◌, if◌then◌else◌, Option, Some, None, IfSome, Result, Ok, Err, is_some, replicate, true}
+use Rattle.std.specs.Prelude.{◌≡◌, ◌⊎◌, ◌++◌, ℕ, List, [], ◌∷◌, if◌then◌else◌, Option, Some, None, IfSome, Result, Ok, Err, is_some, not, replicate, true}
 use Rattle.fault.specs.declared.kinds.Fault.{Fault}
 use Rattle.roles.specs.declared.role.Role.{Role}
 use Rattle.roles.specs.declared.role.Role.TheVariants.{Full, View}
@@ -8,6 +8,7 @@ use Rattle.settings.specs.Rooms.{IsRoomFor}
 use Rattle.settings.specs.declared.values.Settings.{Settings}
 use Rattle.host_turns.specs.declared.ending.Ending.{Ending}
 use Rattle.host_turns.specs.Running.{goes_on}
+use Rattle.viewer_session.specs.declared.form.AnswerForm.{AnswerForm}
 use Rattle.reflector.specs.Course.{Course, IsReflected}
 use Rattle.reflector.specs.declared.ran.Ran.{Ran}
 use Rattle.serve.specs.Statuses.{status_for}
@@ -26,6 +27,10 @@ viewer_roles settings = replicate (places_for Full settings) Full ++ replicate s
 abbrev pub roles_for : Settings → List Role
 roles_for settings = viewer_roles settings ++ (if is_some settings.recording then View ∷ [] else [])
 
+-- How all viewers are answered: RRE and Hextile in the form of the settings, and ZRLE unless the settings say otherwise.
+abbrev pub form_for : Settings → AnswerForm
+form_for settings = record { runs = runs_for settings; zrle = not settings.no_zrle }
+
 -- A run by these settings: its room has their size, or that of its first host's screen; its hosts are joined with a
 -- password exactly where the settings have a file for one; its places have their roles; and its viewers are answered in
 -- their form.
@@ -34,7 +39,7 @@ pub record IsRunFor (settings : Settings) (course : Course) : Type 0 where
   pub room : IsRoomFor settings course.host.w course.host.h course.room_width course.room_height
   pub password : is_some course.password ≡ is_some settings.host_password
   pub roles : course.roles ≡ roles_for settings
-  pub form : course.form ≡ runs_for settings
+  pub form : course.form ≡ form_for settings
 
 -- What the exit status says. If an operator has stopped the run, it is 0, and the settings have a socket for one. If
 -- none has, it is the one for the answer with which the run ended, and 3 or 4 where none was run.

@@ -207,13 +207,13 @@ impl Display for Advice<'_> {
             ),
             Stage::ReadHost => write!(
                 f,
-                "--host {} is no IP:PORT, no NAME:PORT and no listen:IP:PORT, such as 192.0.2.7:5900, localhost:5907 or listen:0.0.0.0:5500",
+                "--host {} is no IP:PORT, no NAME:PORT, no listen:IP:PORT and no file:PATH, such as 192.0.2.7:5900, localhost:5907 or listen:0.0.0.0:5500",
                 settings.host
             ),
             Stage::ReadNext(number) => match settings.next.get(number) {
                 Some(host) => write!(
                     f,
-                    "{host} is no IP:PORT, no NAME:PORT and no listen:IP:PORT, such as 192.0.2.7:5900, localhost:5907 or listen:0.0.0.0:5500"
+                    "{host} is no IP:PORT, no NAME:PORT, no listen:IP:PORT and no file:PATH, such as 192.0.2.7:5900, localhost:5907 or listen:0.0.0.0:5500"
                 ),
                 None => Ok(()),
             },
@@ -299,6 +299,11 @@ impl Display for Advice<'_> {
             Stage::Connect => write!(
                 f,
                 "can't connect to the host {}{said}; is a VNC server running there, at that port?",
+                settings.host
+            ),
+            Stage::OpenRecording => write!(
+                f,
+                "can't open the recording of {}{said}; is it there, and may it be read?",
                 settings.host
             ),
             Stage::Join(number) => write!(

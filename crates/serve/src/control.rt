@@ -7,6 +7,8 @@ use crate::order::{Cut, Skip};
 use crate::state::state;
 use crate::writer_reach::WriterReach;
 use connections::Desk;
+use play_control::{ClockTime, PlayRequest};
+use player::{Player, last_time};
 use recorder::Recording;
 use run_control::{Outcome, Request};
 use std::alloc::Global;
@@ -41,7 +43,10 @@ const PAUSE_MILLIS: u64 = 100;
 
 /// What is answered where an operator's line is no request.
 const NO_REQUEST: &[u8] =
-    b"error: no request: state, state json, drain, undrain, end PLACE, next, call full|view IP:PORT or stop\n";
+    b"error: no request: state, state json, drain, undrain, end PLACE, next, pause, play, seek HH:MM:SS, call full|view IP:PORT or stop\n";
+
+/// What is answered where no recording is played.
+const NO_RECORDING: &str = "error: no recording is played now\n";
 
 /// An operator's socket, and what requests reach before there are halls.
 #[derive(Drop)]
@@ -55,6 +60,8 @@ pub(crate) struct Control {
     pub(crate) view_places: u64,
     /// How the recording stands, if the run is recorded.
     pub(crate) recording: Option<Arc<Recording, Global>>,
+    /// What plays the hosts that are recordings.
+    pub(crate) player: Arc<Player, Global>,
     pub(crate) lifeline: Arc<Lifeline<Cut, Skip>, Global>,
 }
 
@@ -106,11 +113,22 @@ fn read_line(stream: &UnixStream, bytes: &mut [u8; LONGEST]) -> io::Result<Optio
     Ok(None)
 }
 
+/// What an operator asks: of the run, or of the recording that is played.
+#[derive(Clone, Copy)]
+enum Asked {
+    Run(Request),
+    Player(PlayRequest),
+}
+
 /// The request of the first line of these bytes, if it is one.
-fn request_in(bytes: &[u8]) -> Option<Request> {
-    match std::str::from_utf8(bytes) {
-        Ok(text) => Request::read(text.lines().next()?),
-        Err(_) => None,
+fn request_in(bytes: &[u8]) -> Option<Asked> {
+    let Ok(text) = std::str::from_utf8(bytes) else {
+        return None;
+    };
+    let line = text.lines().next()?;
+    match Request::read(line) {
+        Some(request) => Some(Asked::Run(request)),
+        None => Some(Asked::Player(PlayRequest::read(line)?)),
     }
 }
 
@@ -189,8 +207,46 @@ fn answer<R: Net<Stream = TcpStream> + Wait + Clock>(
     out.write_all(text.as_bytes())
 }
 
+/// Has the recording that is played go on from this time, and says what became of that. It isn't left for a time behind
+/// its end.
+fn seek<R: Files + Wait>(rt: &R, reach: &Reach, time: ClockTime) -> io::Result<&'static str> {
+    let player = &reach.control.player;
+    let Some(path) = player.path(rt)? else {
+        return Ok(NO_RECORDING);
+    };
+    let Ok(last) = last_time(rt, reach.alloc, path.as_str()) else {
+        return Ok("error: the recording can't be opened now\n");
+    };
+    if time.millis() > last {
+        return Ok("error: the recording ends before that time\n");
+    }
+    if player.seek(rt, time.millis()) {
+        Ok("done\n")
+    } else {
+        Ok(NO_RECORDING)
+    }
+}
+
+/// Answers one request to the recording that is played.
+fn answer_player<R: Files + Wait + Clock>(
+    rt: &R,
+    reach: &Reach,
+    request: PlayRequest,
+    stream: &UnixStream,
+) -> io::Result<()> {
+    let player = &reach.control.player;
+    let text = match request {
+        PlayRequest::Pause if player.pause(rt) => "done\n",
+        PlayRequest::Play if player.play(rt) => "done\n",
+        PlayRequest::Pause | PlayRequest::Play => NO_RECORDING,
+        PlayRequest::Seek(time) => seek(rt, reach, time)?,
+    };
+    let mut out = stream;
+    out.write_all(text.as_bytes())
+}
+
 /// Hears one request, and answers it. The result says whether the run is to end.
-fn hear<R: Net<Stream = TcpStream> + Wait + Clock>(
+fn hear<R: Net<Stream = TcpStream> + Files + Wait + Clock>(
     rt: &R,
     reach: &Reach,
     stream: &UnixStream,
@@ -203,17 +259,28 @@ fn hear<R: Net<Stream = TcpStream> + Wait + Clock>(
         Some(count) => request_in(bytes.get(..count).unwrap_or(b"")),
         None => None,
     };
-    let Some(request) = asked else {
-        let mut out = stream;
-        out.write_all(NO_REQUEST)?;
-        return Ok(false);
-    };
-    answer(rt, reach, request, stream)?;
-    Ok(matches!(request, Request::Stop))
+    match asked {
+        Some(Asked::Run(request)) => {
+            answer(rt, reach, request, stream)?;
+            Ok(matches!(request, Request::Stop))
+        }
+        Some(Asked::Player(request)) => {
+            answer_player(rt, reach, request, stream)?;
+            Ok(false)
+        }
+        None => {
+            let mut out = stream;
+            out.write_all(NO_REQUEST)?;
+            Ok(false)
+        }
+    }
 }
 
 /// Hears one request after another, until one ends the run. Where an operator breaks off, the next one is heard.
-pub(crate) fn keep_control<R: Net<Stream = TcpStream> + Wait + Clock>(rt: &R, reach: &Reach) {
+pub(crate) fn keep_control<R: Net<Stream = TcpStream> + Files + Wait + Clock>(
+    rt: &R,
+    reach: &Reach,
+) {
     for stream in reach.control.listener.incoming() {
         let Ok(stream) = stream else {
             thread::sleep(rt, Duration::from_millis(PAUSE_MILLIS));

@@ -1,8 +1,9 @@
 //! Where viewers come in, from the first to the last.
 
-ghost use Rattle.std.specs.Prelude.{◌≡◌, IfOk, IfSome, false};
+ghost use Rattle.std.specs.Prelude.{◌≡◌, IfOk, IfSome, true};
 ghost use Rattle.std.specs.Arc.{arc_value};
 ghost use Rattle.raster.specs.Size.{IsScreenSize};
+ghost use Rattle.serve.specs.Hosts.{is_untimed};
 ghost use Rattle.settings.specs.Rooms.{FitsInto};
 
 use crate::control::Control;
@@ -136,7 +137,7 @@ where
     G: RunLog + Clone + Drop + Send + 'static,
     ensures size { IfOk result (λ both. IsScreenSize both.0.joined.w both.0.joined.h) }
     ensures fits { IfOk result (λ both. FitsInto terms.now.room both.0.joined.w both.0.joined.h) }
-    ensures untimed { IfOk result (λ both. (both.0.reader.has_deadline ≡ false) × (both.0.writer.has_deadline ≡ false)) }
+    ensures untimed { IfOk result (λ both. (is_untimed both.0.reader ≡ true) × (is_untimed both.0.writer ≡ true)) }
     ensures password { IfOk result (λ both. both.0.password ≡ terms.now.password) }
     ensures again { supply.new.turns.again ≡ supply.old.turns.again }
     ensures lifeline { supply.new.lifeline ≡ supply.old.lifeline }

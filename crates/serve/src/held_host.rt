@@ -1,18 +1,41 @@
 //! The host that is read, as an operator may end it.
 //!
-//! The connection stands here alone among what an operator reaches. It ends only by what shows that an operator has
+//! What ends it stands here alone among what an operator reaches. It ends only by what shows that an operator has
 //! asked for it: a `C`, that the run stops, or an `S`, that the next host is to follow. Nothing here can make either.
 
 ghost use Rattle.std.specs.Prelude.{◌≡◌, None, Some, if◌then◌else◌, is_some};
 
 use crate::turns::Successor;
+use player::Player;
+use std::alloc::Global;
 use std::marker::PhantomData;
 use std::net::{Shutdown, TcpStream};
+use std::sync::{Arc, Wait};
+
+/// What ends a host, for whoever reads it, from another thread.
+#[derive(Drop)]
+pub(crate) enum Grip {
+    /// Its connection.
+    Stream(TcpStream),
+    /// The player of a recording.
+    Player(Arc<Player, Global>),
+}
+
+impl Grip {
+    fn end<R: Wait>(&self, rt: &R) {
+        match self {
+            Grip::Stream(stream) => {
+                let _ = stream.shutdown(Shutdown::Read);
+            }
+            Grip::Player(player) => player.leave(rt),
+        }
+    }
+}
 
 /// The host that is read.
 #[derive(Drop)]
 pub(crate) struct HeldHost<C: Copy + Drop, S: Copy + Drop> {
-    stream: TcpStream,
+    grip: Grip,
     /// What shows that a host has its turn after this one, if one has.
     successor: Option<Successor>,
     /// What it was left for the next host by.
@@ -21,12 +44,12 @@ pub(crate) struct HeldHost<C: Copy + Drop, S: Copy + Drop> {
 }
 
 impl<C: Copy + Drop, S: Copy + Drop> HeldHost<C, S> {
-    /// The host that is read over this connection.
-    pub(crate) fn new(stream: TcpStream, successor: Option<Successor>) -> HeldHost<C, S>
+    /// The host that is read, and what ends it.
+    pub(crate) fn new(grip: Grip, successor: Option<Successor>) -> HeldHost<C, S>
         ensures { (result.successor ≡ successor) × (result.skipped ≡ None) }
     {
         HeldHost {
-            stream,
+            grip,
             successor,
             skipped: None,
             by: PhantomData,
@@ -41,16 +64,16 @@ impl<C: Copy + Drop, S: Copy + Drop> HeldHost<C, S> {
     }
 
     /// It ends now, for whoever reads it, since the run stops.
-    pub(crate) fn stop(&self, _cut: C) {
-        let _ = self.stream.shutdown(Shutdown::Read);
+    pub(crate) fn stop<R: Wait>(&self, rt: &R, _cut: C) {
+        self.grip.end(rt);
     }
 
     /// It ends now, for whoever reads it, if a host has its turn after it.
-    pub(crate) fn skip(&mut self, skip: S)
+    pub(crate) fn skip<R: Wait>(&mut self, rt: &R, skip: S)
         ensures { self.new.skipped ≡ (if is_some self.old.successor then Some skip else self.old.skipped) }
     {
         if self.successor.is_some() {
-            let _ = self.stream.shutdown(Shutdown::Read);
+            self.grip.end(rt);
             self.skipped = Some(skip);
         }
     }

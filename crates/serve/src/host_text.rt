@@ -7,7 +7,7 @@ ghost use Rattle.serve.specs.Hosts.{CallsAt};
 
 use crate::trouble::{Stage, Trouble};
 use fault::Fault;
-use settings::Settings;
+use settings::{Settings, recording_path};
 use std::alloc::{AllocError, Global};
 use std::net::SocketAddr;
 
@@ -34,8 +34,12 @@ pub(crate) fn call_address(text: &str) -> Option<SocketAddr>
 }
 
 /// Whether a text says where a host is: an address with a port, as `192.0.2.7:5900` and `[::1]:5900`, or a name with
-/// one. Or it says where the host calls: at an address with a port other than 0, after `listen:`.
+/// one. Or it says where the host calls: at an address with a port other than 0, after `listen:`. Or it says the path
+/// of a recording, after `file:`.
 fn says_where(text: &str) -> bool {
+    if let Some(path) = recording_path(text) {
+        return !path.is_empty();
+    }
     if let Some(address) = call_address(text) {
         return address.port() != 0;
     }

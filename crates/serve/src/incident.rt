@@ -22,6 +22,8 @@ pub(crate) enum Incident<'a> {
     HostStopped(Option<SocketAddr>, Cut),
     /// The host was left because the run was asked for its next one, as the `Skip` shows.
     HostSkipped(Option<SocketAddr>, Skip),
+    /// The recording that was played was left because another time of it was asked for.
+    RecordingSought,
     /// This happens to the recording at this path.
     Recording(&'a str, &'a RecordingNews),
 }

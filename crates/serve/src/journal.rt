@@ -12,6 +12,7 @@ use recorder::{EndReason, RecordingNews};
 use roles::Role;
 use run_reports::{Gravity, Ledger, Paper, prefix_of};
 use run_traits::{Event, Parting, PlaceId, Visit, Way};
+use settings::recording_path;
 use std::alloc::{AllocError, Global};
 use std::fmt;
 use std::fmt::{Display, Formatter};
@@ -218,6 +219,21 @@ fn viewer_out<W: fmt::Write>(
     )
 }
 
+/// The line of a try to open a recording.
+fn recording_tried<W: fmt::Write>(
+    f: &mut Formatter<W>,
+    path: &str,
+    refused: Option<ErrorKind>,
+) -> fmt::Result {
+    let path = Quoted {
+        bytes: path.as_bytes(),
+    };
+    match refused {
+        Some(kind) => write!(f, "host-tried recording=\"{path}\" why=\"{kind}\""),
+        None => write!(f, "host-tried recording=\"{path}\" why=\"opened\""),
+    }
+}
+
 /// The line of a try to connect to a host. Where the system has no address for the host's name, the text that names it
 /// stands in the address's place.
 fn host_tried<W: fmt::Write>(
@@ -226,6 +242,9 @@ fn host_tried<W: fmt::Write>(
     address: Option<SocketAddr>,
     refused: Option<ErrorKind>,
 ) -> fmt::Result {
+    if let Some(path) = recording_path(host) {
+        return recording_tried(f, path, refused);
+    }
     match address {
         Some(address) => write!(f, "host-tried address={address} why=\"")?,
         None => write!(f, "host-tried address={host} why=\"")?,
@@ -392,6 +411,7 @@ impl Display for Words<'_> {
                 let place = AddressOrDash { address: *address };
                 write!(f, "host-out address={place} why=\"stopped\"")
             }
+            Incident::RecordingSought => f.write_str("host-out address=- why=\"seek\""),
             Incident::HostSkipped(address, _skip) => {
                 let place = AddressOrDash { address: *address };
                 write!(f, "host-out address={place} why=\"next\"")

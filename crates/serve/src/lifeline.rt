@@ -57,7 +57,7 @@ impl<C: Copy + Drop, S: Copy + Drop> Lifeline<C, S> {
     pub(crate) fn hold<R: Wait>(&self, rt: &R, host: HeldHost<C, S>) {
         let mut line = self.line.lock(rt);
         if let Some(cut) = line.cut {
-            host.stop(cut);
+            host.stop(rt, cut);
         }
         line.present = Some(host);
     }
@@ -80,7 +80,7 @@ impl<C: Copy + Drop, S: Copy + Drop> Lifeline<C, S> {
         let mut line = self.line.lock(rt);
         line.cut = Some(cut);
         if let Some(host) = &line.present {
-            host.stop(cut);
+            host.stop(rt, cut);
         }
     }
 
@@ -104,7 +104,7 @@ impl<C: Copy + Drop, S: Copy + Drop> Lifeline<C, S> {
             return;
         }
         if let Some(host) = &mut line.present {
-            host.skip(skip);
+            host.skip(rt, skip);
         }
     }
 

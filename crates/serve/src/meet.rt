@@ -1,23 +1,29 @@
 //! Meeting hosts.
 
 ghost use Rattle.std.specs.Prelude.{◌≡◌, IfOk, IfSome, false, true};
-ghost use Rattle.connections.specs.Wires.{joining_state};
+ghost use Rattle.serve.specs.Hosts.{end_state, is_untimed};
 ghost use Rattle.link.specs.Joins.{Joins};
 ghost use Rattle.raster.specs.Size.{IsScreenSize};
 ghost use Rattle.run_traits.specs.Unused.{unused};
 ghost use Rattle.settings.specs.Rooms.{FitsInto};
 
+use crate::held_host::Grip;
+use crate::host_end::HostEnd;
 use crate::trouble::{Stage, Trouble};
 use connections::{HostCall, HostLink, HostListener, JoiningLink};
 use fault::Fault;
 use host_turns::HostEnds;
 use link::join_host;
+use player::{DeafLink, Player, open_recording};
 use rfb_wire::Joined;
 use settings::{Room, fits};
+use std::alloc::Global;
+use std::fs::File;
 use std::io;
 use std::io::ErrorKind;
 use std::net::{Net, SocketAddr, TcpStream, ToSocketAddrs};
-use std::sync::Wait;
+use std::rt::Files;
+use std::sync::{Arc, Wait};
 use std::time::{Clock, Duration};
 use vnc_auth::Password;
 
@@ -38,24 +44,24 @@ pub(crate) struct Terms {
 /// A host that was joined: the ends of its connection, one to be read, over which it was joined, and one to be written,
 /// over which nothing was given yet.
 #[derive(Drop)]
-pub(crate) struct Met<R: Clock + Drop> {
-    pub(crate) reader: JoiningLink<R>,
-    pub(crate) writer: JoiningLink<R>,
+pub(crate) struct Met<R: Wait + Clock + Drop> {
+    pub(crate) reader: HostEnd<R>,
+    pub(crate) writer: HostEnd<R>,
     pub(crate) has_called: bool,
     pub(crate) joined: Joined,
     /// The password that hosts may ask for, if one is known.
     pub(crate) password: Option<Password>,
-    pub(crate) ghost joins: { ∥ Joins password unused (joining_state reader) joined ∥₁ },
-    pub(crate) ghost fresh: { joining_state writer ≡ unused },
+    pub(crate) ghost joins: { ∥ Joins password unused (end_state reader) joined ∥₁ },
+    pub(crate) ghost fresh: { end_state writer ≡ unused },
 }
 
 /// Connects to a host: the end to be read, over which the handshake has ten seconds, and the end to be written.
-fn connect<R: Net<Stream = TcpStream> + Clock + Copy + Drop>(
+fn connect<R: Net<Stream = TcpStream> + Wait + Clock + Copy + Drop>(
     rt: R,
     address: SocketAddr,
 ) -> io::Result<Reached<R>>
-    ensures untimed { IfOk result (λ reached. reached.writer.has_deadline ≡ false) }
-    ensures fresh { IfOk result (λ reached. (joining_state reached.reader ≡ unused) × (joining_state reached.writer ≡ unused)) }
+    ensures untimed { IfOk result (λ reached. is_untimed reached.writer ≡ true) }
+    ensures fresh { IfOk result (λ reached. (end_state reached.reader ≡ unused) × (end_state reached.writer ≡ unused)) }
     ensures called { IfOk result (λ reached. reached.has_called ≡ false) }
 {
     let patience = Duration::from_secs(CONNECT_SECONDS);
@@ -63,22 +69,22 @@ fn connect<R: Net<Stream = TcpStream> + Clock + Copy + Drop>(
     let (reader, writer) = HostLink::pair(stream.try_clone()?)?;
     let reader = JoiningLink::new(rt, reader)?;
     Ok(Reached {
-        address,
-        stream,
-        reader,
-        writer: JoiningLink::without_limit(rt, writer),
+        address: Some(address),
+        grip: Grip::Stream(stream),
+        reader: HostEnd::Tcp(reader),
+        writer: HostEnd::Tcp(JoiningLink::without_limit(rt, writer)),
         has_called: false,
     })
 }
 
 /// The host that calls here next: the same ends as of one that is connected to. It is `None` where none calls within
 /// half a second.
-pub(crate) fn called<R: Clock + Copy + Drop>(
+pub(crate) fn called<R: Wait + Clock + Copy + Drop>(
     rt: R,
     listener: &HostListener,
 ) -> io::Result<Option<Reached<R>>>
-    ensures untimed { IfOk result (λ call. IfSome call (λ reached. reached.writer.has_deadline ≡ false)) }
-    ensures fresh { IfOk result (λ call. IfSome call (λ reached. (joining_state reached.reader ≡ unused) × (joining_state reached.writer ≡ unused))) }
+    ensures untimed { IfOk result (λ call. IfSome call (λ reached. is_untimed reached.writer ≡ true)) }
+    ensures fresh { IfOk result (λ call. IfSome call (λ reached. (end_state reached.reader ≡ unused) × (end_state reached.writer ≡ unused))) }
     ensures called { IfOk result (λ call. IfSome call (λ reached. reached.has_called ≡ true)) }
 {
     let Some(call) = listener.accept()? else {
@@ -92,52 +98,82 @@ pub(crate) fn called<R: Clock + Copy + Drop>(
     } = call;
     let reader = JoiningLink::new(rt, reader)?;
     Ok(Some(Reached {
-        address,
-        stream,
-        reader,
-        writer: JoiningLink::without_limit(rt, writer),
+        address: Some(address),
+        grip: Grip::Stream(stream),
+        reader: HostEnd::Tcp(reader),
+        writer: HostEnd::Tcp(JoiningLink::without_limit(rt, writer)),
         has_called: true,
     }))
 }
 
-/// A host that was connected to, at this address, or has called from there: the ends of its connection, and what ends
-/// it from another thread.
+/// The recording at this path, as a host that is connected to: an end over which it is heard, and one that hears
+/// nothing.
+pub(crate) fn opened<R: Files<File = File> + Wait + Clock + Copy + Drop>(
+    rt: R,
+    alloc: Global,
+    path: &str,
+    player: &Arc<Player, Global>,
+) -> Result<Reached<R>, Missed>
+    ensures untimed { IfOk result (λ reached. is_untimed reached.writer ≡ true) }
+    ensures fresh { IfOk result (λ reached. (end_state reached.reader ≡ unused) × (end_state reached.writer ≡ unused)) }
+    ensures called { IfOk result (λ reached. reached.has_called ≡ false) }
+{
+    let missed = |error: io::Error| Missed {
+        address: None,
+        stage: Stage::OpenRecording,
+        error,
+    };
+    let grip = match Arc::try_clone(player) {
+        Ok(player) => Grip::Player(player),
+        Err(_) => return Err(missed(io::Error::from(ErrorKind::OutOfMemory))),
+    };
+    match open_recording(rt, alloc, path, player) {
+        Ok(host) => Ok(Reached {
+            address: None,
+            grip,
+            reader: HostEnd::Played(host),
+            writer: HostEnd::Deaf(DeafLink::new()),
+            has_called: false,
+        }),
+        Err(error) => Err(missed(error)),
+    }
+}
+
+/// A host that was connected to, at this address, or has called from there, or a recording, which has no address: the
+/// ends of its connection, and what ends it from another thread.
 #[derive(Drop)]
-pub(crate) struct Reached<R: Clock + Drop> {
-    pub(crate) address: SocketAddr,
-    pub(crate) stream: TcpStream,
-    pub(crate) reader: JoiningLink<R>,
-    pub(crate) writer: JoiningLink<R>,
+pub(crate) struct Reached<R: Wait + Clock + Drop> {
+    pub(crate) address: Option<SocketAddr>,
+    pub(crate) grip: Grip,
+    pub(crate) reader: HostEnd<R>,
+    pub(crate) writer: HostEnd<R>,
     /// Whether it has called.
     pub(crate) has_called: bool,
 }
 
 /// A host that wasn't connected to: the last address that was tried, or none where the system had none for its name,
-/// and what the system said.
+/// or where it is a recording; what was being done, and what the system said.
 #[derive(Drop)]
 pub(crate) struct Missed {
     pub(crate) address: Option<SocketAddr>,
+    pub(crate) stage: Stage,
     pub(crate) error: io::Error,
 }
 
 impl Missed {
     /// What went wrong.
     pub(crate) fn trouble(self) -> Trouble {
-        let stage = match self.address {
-            Some(_) => Stage::Connect,
-            None => Stage::LookUp,
-        };
-        Trouble::of(stage, self.error)
+        Trouble::of(self.stage, self.error)
     }
 }
 
 /// Connects to a host at one of the addresses that its text has now, in the system's order.
-pub(crate) fn connect_by_text<R: Net<Stream = TcpStream> + Clock + Copy + Drop>(
+pub(crate) fn connect_by_text<R: Net<Stream = TcpStream> + Wait + Clock + Copy + Drop>(
     rt: R,
     host: &str,
 ) -> Result<Reached<R>, Missed>
-    ensures untimed { IfOk result (λ reached. reached.writer.has_deadline ≡ false) }
-    ensures fresh { IfOk result (λ reached. (joining_state reached.reader ≡ unused) × (joining_state reached.writer ≡ unused)) }
+    ensures untimed { IfOk result (λ reached. is_untimed reached.writer ≡ true) }
+    ensures fresh { IfOk result (λ reached. (end_state reached.reader ≡ unused) × (end_state reached.writer ≡ unused)) }
     ensures called { IfOk result (λ reached. reached.has_called ≡ false) }
 {
     let addresses = match host.to_socket_addrs(&rt) {
@@ -145,12 +181,14 @@ pub(crate) fn connect_by_text<R: Net<Stream = TcpStream> + Clock + Copy + Drop>(
         Err(error) => {
             return Err(Missed {
                 address: None,
+                stage: Stage::LookUp,
                 error,
             });
         }
     };
     let mut missed = Missed {
         address: None,
+        stage: Stage::LookUp,
         error: io::Error::from(ErrorKind::NotFound),
     };
     for address in addresses.take(MOST_ADDRESSES) {
@@ -159,6 +197,7 @@ pub(crate) fn connect_by_text<R: Net<Stream = TcpStream> + Clock + Copy + Drop>(
             Err(error) => {
                 missed = Missed {
                     address: Some(address),
+                    stage: Stage::Connect,
                     error,
                 };
             }
@@ -174,15 +213,15 @@ pub(crate) fn join<R>(
     rt: &R,
     number: usize,
     terms: &Terms,
-    ends: HostEnds<JoiningLink<R>>,
+    ends: HostEnds<HostEnd<R>>,
 ) -> Result<Met<R>, Trouble>
 where
     R: Net<Stream = TcpStream> + Wait + Clock + Copy + Drop,
-    requires untimed { ends.writer.has_deadline ≡ false }
-    requires fresh { (joining_state ends.reader ≡ unused) × (joining_state ends.writer ≡ unused) }
+    requires untimed { is_untimed ends.writer ≡ true }
+    requires fresh { (end_state ends.reader ≡ unused) × (end_state ends.writer ≡ unused) }
     ensures size { IfOk result (λ met. IsScreenSize met.joined.w met.joined.h) }
     ensures fits { IfOk result (λ met. FitsInto terms.now.room met.joined.w met.joined.h) }
-    ensures untimed { IfOk result (λ met. (met.reader.has_deadline ≡ false) × (met.writer.has_deadline ≡ false)) }
+    ensures untimed { IfOk result (λ met. (is_untimed met.reader ≡ true) × (is_untimed met.writer ≡ true)) }
     ensures password { IfOk result (λ met. met.password ≡ terms.now.password) }
 {
     let HostEnds {

@@ -8,6 +8,7 @@ ghost use Rattle.run_traits.specs.Unused.{unused};
 ghost use Rattle.settings.specs.ByRole.{HasPlaces};
 ghost use Rattle.settings.specs.Rooms.{FitsInto, IsRoomFor};
 ghost use Rattle.reflector.specs.Course.{IsReflected};
+ghost use Rattle.serve.specs.Hosts.{is_untimed};
 ghost use Rattle.serve.specs.Turns.{endless};
 ghost use Rattle.serve.specs.Runs.{IsEndBy, IsRunBy, roles_for};
 ghost use Rattle.serve.specs.Doors.{AreDoorsFor, AreBoth, roles_in};
@@ -15,6 +16,7 @@ ghost use Rattle.serve.specs.Doors.{AreDoorsFor, AreBoth, roles_in};
 use crate::control::Control;
 use crate::ended::{Ended, Reflected};
 use crate::entries::Entrances;
+use crate::form::form_of;
 use crate::halls::welcome;
 use crate::host_text::texts_of;
 use crate::incident::RunLog;
@@ -31,22 +33,25 @@ use crate::writer_reach::WriterReach;
 use connections::{Desk, HostListener, Seat, WriterSeat};
 use fault::Fault;
 use host_turns::{Ending, HostEnds, Hosts, RunScreen};
-use joined_runs::Runs;
 use link::{Link, Rest};
+use play_control::Speed;
+use player::Player;
 use reflector::{InputCounts, Running, run_all};
 use rfb_wire::Joined;
 use roles::Role;
 use run_traits::{Alarm, Door, Log};
-use settings::{Settings, room_of, runs_of};
+use settings::{Settings, room_of};
 use shared_screen::{Naming, Opened, Publishes};
 use std::alloc::{AllocError, Global};
-use std::fs::File;
 use std::marker::Brand;
-use std::rt::Files;
 use std::sync::{Arc, Wait};
 use std::thread::Threads;
 use std::time::Clock;
+use viewer_session::AnswerForm;
 use vnc_auth::Password;
+
+/// A recording's own speed.
+const OWN_SPEED: Speed = Speed { hundredths: 100 };
 
 /// The run over a history that J names, in this room. Its first host, which fits, was joined over the end that is read,
 /// and given nothing over the other. What J names doesn't leave this call: what is handed out says in plain lists what
@@ -59,7 +64,7 @@ fn over<J, L, H, D, B, W, R>(
     joined: Joined,
     hosts: H,
     doors: Vec<(Role, D)>,
-    runs: Runs,
+    form: AnswerForm,
     everyone: Arc<B, Global>,
     writer: Arc<W, Global>,
     input: Arc<InputCounts, Global>,
@@ -82,7 +87,7 @@ where
     ensures reflected { IfOk result (λ run. IsReflected run.ran.course) }
     ensures room { IfOk result (λ run. (run.ran.course.host ≡ joined) × (run.ran.course.room_width ≡ room.width) × (run.ran.course.room_height ≡ room.height) × (run.ran.course.password ≡ room.password)) }
     ensures roles { IfOk result (λ run. run.ran.course.roles ≡ map (λ door. door.0) doors.items) }
-    ensures form { IfOk result (λ run. run.ran.course.form ≡ runs) }
+    ensures form { IfOk result (λ run. run.ran.course.form ≡ form) }
     ensures last { IfOk result (λ run. run.last ≡ run.ran.course.last_end) }
     ensures never { IfOk result (λ run. goes_on run.last ≡ true → H.again hosts ≡ None) }
 {
@@ -98,7 +103,7 @@ where
         written: _written,
         places: _places,
     } = run_all::<J, L, H, D, B, W, R>(
-        rt, room, history, ends, joined, hosts, doors, runs, everyone, writer, input,
+        rt, room, history, ends, joined, hosts, doors, form, everyone, writer, input,
     )?;
     Ok(Reflected { last, ran })
 }
@@ -146,7 +151,7 @@ where
     requires size { IsScreenSize met.joined.w met.joined.h }
     requires fits { FitsInto settings.now.room met.joined.w met.joined.h }
     requires password { is_some met.password ≡ is_some settings.now.host_password }
-    requires untimed { (met.reader.has_deadline ≡ false) × (met.writer.has_deadline ≡ false) }
+    requires untimed { (is_untimed met.reader ≡ true) × (is_untimed met.writer ≡ true) }
     requires places { HasPlaces settings.now }
     requires doors { roles_in doors.items ≡ roles_for settings.now }
     requires roles { All (λ door. D.is_for door.1 door.0) doors.items }
@@ -175,7 +180,7 @@ where
         joined,
         supply,
         doors,
-        runs_of(settings),
+        form_of(settings),
         everyone,
         seat,
         input,
@@ -261,6 +266,16 @@ impl<G: Log + Clone + Drop> Common<G> {
     }
 }
 
+/// What plays the hosts that are recordings, as the settings say.
+fn player_of(alloc: Global, settings: &Settings) -> Result<Arc<Player, Global>, Trouble> {
+    let from = settings.from.map_or(0, |time| time.millis());
+    let speed = settings.speed.unwrap_or(OWN_SPEED);
+    match Arc::new(alloc, Player::new(from, speed)) {
+        Ok(player) => Ok(player),
+        Err(_) => Err(Trouble::new(Stage::Start, Fault::Memory)),
+    }
+}
+
 /// How a run ended: as an operator has stopped it, if one has, or as it ended by itself.
 fn end_of(
     settings: &Settings,
@@ -312,7 +327,7 @@ pub(crate) fn run<G, R>(
 ) -> Result<Ended, Trouble>
 where
     G: RunLog + Clone + Drop + Send + 'static,
-    R: Runtime + Files<File = File>,
+    R: Runtime,
     requires places { HasPlaces settings.now }
     requires password { is_some password ≡ is_some settings.now.host_password }
     requires tape { is_some tape ≡ is_some settings.now.recording }
@@ -331,8 +346,9 @@ where
     else {
         return Err(Trouble::new(Stage::Start, Fault::Memory));
     };
+    let player = player_of(alloc, settings)?;
     let standing = standing_of(&tape)?;
-    let control = match control_of(&rt, alloc, settings, &desk, &writer, standing) {
+    let control = match control_of(&rt, alloc, settings, &desk, &writer, &player, standing) {
         Ok(control) => control,
         Err(trouble) => {
             clear(&rt, &tape);
@@ -349,6 +365,7 @@ where
         desk,
         hosts,
         callers,
+        player,
         settings.again,
         held,
     );

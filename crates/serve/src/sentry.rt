@@ -55,7 +55,9 @@ fn happening_of(incident: &Incident<'_>) -> Option<Happening> {
     match incident {
         Incident::Noted(event) => happening_at(event),
         Incident::MetricsListening(_) | Incident::HostsListening(_) => None,
-        Incident::HostStopped(..) | Incident::HostSkipped(..) => Some(Happening::HostLeft),
+        Incident::HostStopped(..) | Incident::HostSkipped(..) | Incident::RecordingSought => {
+            Some(Happening::HostLeft)
+        }
         Incident::Recording(..) => None,
     }
 }

@@ -12,6 +12,7 @@ use crate::trouble::{Stage, Trouble};
 use crate::writer_reach::WriterReach;
 use connections::Desk;
 use fault::Fault;
+use player::Player;
 use recorder::Recording;
 use roles::Role;
 use settings::{Settings, places_of};
@@ -30,6 +31,7 @@ fn prepared(
     settings: &Settings,
     desk: &Arc<Desk, Global>,
     writer: &WriterReach,
+    player: &Arc<Player, Global>,
     recording: Option<Arc<Recording, Global>>,
 ) -> Result<Control, AllocError>
     ensures { IfOk result (λ control. HasPlacesFor settings.now control) }
@@ -41,18 +43,20 @@ fn prepared(
         full_places: places_of(settings, Role::Full),
         view_places: places_of(settings, Role::View),
         recording,
+        player: Arc::try_clone(player)?,
         lifeline: Arc::new(alloc, Lifeline::new())?,
     })
 }
 
 /// Listens for an operator, if the settings have a path for it. Requests reach the desk of the run, the hosts' writer,
-/// and how the run's recording stands, if there is one.
+/// what plays hosts that are recordings, and how the run's own recording stands, if there is one.
 pub(crate) fn control_of<R: Files + Net>(
     rt: &R,
     alloc: Global,
     settings: &Settings,
     desk: &Arc<Desk, Global>,
     writer: &WriterReach,
+    player: &Arc<Player, Global>,
     recording: Option<Arc<Recording, Global>>,
 ) -> Result<Option<Control>, Trouble>
     ensures heard { IfOk result (λ control. is_some control ≡ is_some settings.now.control) }
@@ -65,7 +69,7 @@ pub(crate) fn control_of<R: Files + Net>(
         Ok(listener) => listener,
         Err(error) => return Err(Trouble::of(Stage::Control, error)),
     };
-    match prepared(alloc, listener, settings, desk, writer, recording) {
+    match prepared(alloc, listener, settings, desk, writer, player, recording) {
         Ok(control) => Ok(Some(control)),
         Err(_) => Err(Trouble::new(Stage::Start, Fault::Memory)),
     }

@@ -5,10 +5,13 @@ ghost use Rattle.serve.specs.States.{IsHostReport, IsRecordingReport, IsViewerRe
 
 use crate::control::Reach;
 use connections::{HostCard, RunCard, ViewerCard};
+use play_control::ClockTime;
+use player::Played;
 use recorder::Standing;
 use run_control::Form;
 use run_reports::{
-    HostReport, RecordingReport, RecordingState, Report, ViewerReport, state_json, state_text,
+    HostReport, PlayedReport, RecordingReport, RecordingState, Report, ViewerReport, state_json,
+    state_text,
 };
 use std::alloc::{AllocError, Global};
 use std::net::SocketAddr;
@@ -83,6 +86,15 @@ fn recording_report(standing: Standing, bytes: u64, now: u64) -> RecordingReport
     }
 }
 
+/// The time up to which a recording is played, as text, or none where none is.
+fn time_text(alloc: Global, played: &Option<Played>) -> Result<String, AllocError> {
+    let Some(played) = played else {
+        return Ok(String::new(alloc));
+    };
+    let time = ClockTime::at(played.time);
+    format!(in alloc; "{:02}:{:02}:{:02}", time.hours, time.minutes, time.seconds)
+}
+
 /// The addresses of all viewers, in their order.
 fn addresses_of(alloc: Global, viewers: &[ViewerCard]) -> Result<Vec<String>, AllocError> {
     let mut addresses = Vec::new(alloc);
@@ -120,10 +132,19 @@ pub(crate) fn state<R: Wait + Clock>(
         Some(card) => address_text(alloc, card.address)?,
         None => String::new(alloc),
     };
+    let played = reach.control.player.look(rt);
+    let time = time_text(alloc, &played)?;
     let report = Report {
         entry: run_card.entry,
         host: match &run_card.host {
             Some(card) => Some(host_report(card, host_address.as_str(), &run_card)),
+            None => None,
+        },
+        played: match &played {
+            Some(played) => Some(PlayedReport {
+                time: time.as_str(),
+                is_paused: played.is_paused,
+            }),
             None => None,
         },
         full_places: reach.control.full_places,

@@ -1,30 +1,35 @@
 //! The hosts that follow on one that has ended.
 
 ghost use Rattle.std.specs.Prelude.{◌≡◌, ◌⊎◌, ◌-◌, ◌≤◌, ⊤, IfOk, IfSome, IsNone, None, false, is_some, length, true};
-ghost use Rattle.connections.specs.Wires.{joining_state};
 ghost use Rattle.run_traits.specs.Unused.{unused};
 ghost use Rattle.settings.specs.Rooms.{FitsInto};
+ghost use Rattle.serve.specs.Hosts.{end_state, is_closed, is_untimed};
 ghost use Rattle.serve.specs.Turns.{endless, turn_of};
 ghost use Rattle.serve.specs.Stops.{IsOut};
 
 use crate::held_host::HeldHost;
+use crate::host_end::HostEnd;
 use crate::incident::{Incident, RunLog};
 use crate::lifeline::{Lifeline, Recall};
-use crate::meet::{Met, Missed, Reached, Terms, called, connect_by_text, join};
+use crate::meet::{Met, Missed, Reached, Terms, called, connect_by_text, join, opened};
 use crate::noted_tries::NotedTries;
 use crate::order::{Cut, Skip};
 use crate::quoted::Quoted;
 use crate::rested::Rested;
-use crate::trouble::Trouble;
+use crate::trouble::{Stage, Trouble};
 use crate::turns::Turns;
-use connections::{Desk, HostCard, HostListener, JoiningLink};
+use connections::{Desk, HostCard, HostListener};
 use fault::Fault;
 use host_turns::{HostEnds, Hosts};
+use player::Player;
 use rfb_wire::Joined;
 use run_traits::{Event, Log, clock_millis};
+use settings::recording_path;
 use std::alloc::Global;
+use std::fs::File;
 use std::io::ErrorKind;
 use std::net::{Net, SocketAddr, TcpListener, TcpStream};
+use std::rt::Files;
 use std::sync::{Arc, Wait};
 use std::time::{Clock, Duration};
 use std::{io, thread};
@@ -48,6 +53,8 @@ pub(crate) struct Supply<
     texts: Vec<String>,
     /// Where hosts call, by their numbers: none where a host is connected to.
     callers: Vec<Option<HostListener>>,
+    /// What plays the hosts that are recordings.
+    player: Arc<Player, Global>,
     turns: Turns,
     noted_tries: NotedTries,
     /// Where the host whose turn it is was reached, if it was.
@@ -56,6 +63,8 @@ pub(crate) struct Supply<
     is_joined: bool,
     /// The number of that host, if it has called and wasn't joined. The next that calls there has its turn.
     called: Option<usize>,
+    /// The number of that host, if it is a recording. It has its turn again where another time of it is sought.
+    played: Option<usize>,
     /// What an operator ends the run by, or the turn of a host, if one can.
     lifeline: Option<Arc<Lifeline<Cut, Skip>, Global>>,
     /// What showed that the run was asked to stop, if it was seen.
@@ -63,7 +72,12 @@ pub(crate) struct Supply<
 }
 
 impl<
-    R: Net<Stream = TcpStream, Listener = TcpListener> + Wait + Clock + Copy + Drop,
+    R: Net<Stream = TcpStream, Listener = TcpListener>
+        + Files<File = File>
+        + Wait
+        + Clock
+        + Copy
+        + Drop,
     G: RunLog + Drop,
 > Supply<R, G> {
     ghost use Rattle.raster.specs.Size.{IsScreenSize};
@@ -77,6 +91,7 @@ impl<
         desk: Arc<Desk, Global>,
         texts: Vec<String>,
         callers: Vec<Option<HostListener>>,
+        player: Arc<Player, Global>,
         again: Option<u64>,
         lifeline: Option<Arc<Lifeline<Cut, Skip>, Global>>,
     ) -> Supply<R, G>
@@ -93,11 +108,13 @@ impl<
             desk,
             texts,
             callers,
+            player,
             turns: Turns::new(further, again),
             noted_tries: NotedTries::new(),
             present: None,
             is_joined: false,
             called: None,
+            played: None,
             lifeline,
             stopped: None,
         }
@@ -114,7 +131,7 @@ impl<
     pub(crate) fn first(&mut self, terms: &Terms) -> Result<Met<R>, Trouble>
         ensures size { IfOk result (λ met. IsScreenSize met.joined.w met.joined.h) }
         ensures fits { IfOk result (λ met. FitsInto terms.now.room met.joined.w met.joined.h) }
-        ensures untimed { IfOk result (λ met. (met.reader.has_deadline ≡ false) × (met.writer.has_deadline ≡ false)) }
+        ensures untimed { IfOk result (λ met. (is_untimed met.reader ≡ true) × (is_untimed met.writer ≡ true)) }
         ensures password { IfOk result (λ met. met.password ≡ terms.now.password) }
         ensures again { self.new.turns.again ≡ self.old.turns.again }
         ensures lifeline { self.new.lifeline ≡ self.old.lifeline }
@@ -126,7 +143,9 @@ impl<
                 Ok(met) => return Ok(met),
                 Err(trouble) => trouble,
             };
-            let is_tried = self.turns.again().is_some() || self.called.is_some();
+            let is_tried = self.turns.again().is_some()
+                || self.called.is_some()
+                || self.sought().is_some();
             if !is_tried || trouble.is_final() || self.is_cut().is_some() {
                 return Err(trouble);
             }
@@ -142,7 +161,7 @@ impl<
     fn meet(&mut self, number: usize, terms: &Terms) -> Result<Met<R>, Trouble>
         ensures size { IfOk result (λ met. IsScreenSize met.joined.w met.joined.h) }
         ensures fits { IfOk result (λ met. FitsInto terms.now.room met.joined.w met.joined.h) }
-        ensures untimed { IfOk result (λ met. (met.reader.has_deadline ≡ false) × (met.writer.has_deadline ≡ false)) }
+        ensures untimed { IfOk result (λ met. (is_untimed met.reader ≡ true) × (is_untimed met.writer ≡ true)) }
         ensures password { IfOk result (λ met. met.password ≡ terms.now.password) }
         ensures again { self.new.turns.again ≡ self.old.turns.again }
         ensures lifeline { self.new.lifeline ≡ self.old.lifeline }
@@ -187,18 +206,18 @@ impl<
     }
 
     /// The ends of a connection to a host that is read from now on.
-    fn take_up(&self, reached: Reached<R>) -> HostEnds<JoiningLink<R>>
+    fn take_up(&self, reached: Reached<R>) -> HostEnds<HostEnd<R>>
         ensures { (result.reader ≡ reached.reader) × (result.writer ≡ reached.writer) × (result.has_called ≡ reached.has_called) }
     {
         let Reached {
             address: _,
-            stream,
+            grip,
             reader,
             writer,
             has_called,
         } = reached;
         if let Some(lifeline) = &self.lifeline {
-            lifeline.hold(&self.rt, HeldHost::new(stream, self.turns.successor()));
+            lifeline.hold(&self.rt, HeldHost::new(grip, self.turns.successor()));
         }
         HostEnds {
             reader,
@@ -209,8 +228,8 @@ impl<
 
     /// Waits for the host that calls here next, unless the run is to stop.
     fn await_call(&self, listener: &HostListener) -> Result<Reached<R>, Missed>
-        ensures untimed { IfOk result (λ reached. reached.writer.has_deadline ≡ false) }
-        ensures fresh { IfOk result (λ reached. (joining_state reached.reader ≡ unused) × (joining_state reached.writer ≡ unused)) }
+        ensures untimed { IfOk result (λ reached. is_untimed reached.writer ≡ true) }
+        ensures fresh { IfOk result (λ reached. (end_state reached.reader ≡ unused) × (end_state reached.writer ≡ unused)) }
         ensures called { IfOk result (λ reached. reached.has_called ≡ true) }
     {
         let rt = self.rt;
@@ -218,6 +237,7 @@ impl<
             if self.is_cut().is_some() {
                 return Err(Missed {
                     address: None,
+                    stage: Stage::Connect,
                     error: io::Error::from(ErrorKind::Interrupted),
                 });
             }
@@ -238,32 +258,36 @@ impl<
         }
     }
 
-    /// Connects to the host of this number, or waits for its call.
+    /// Connects to the host of this number, waits for its call, or opens it where it is a recording.
     fn try_host(&self, number: usize) -> Result<Reached<R>, Missed>
-        ensures untimed { IfOk result (λ reached. reached.writer.has_deadline ≡ false) }
-        ensures fresh { IfOk result (λ reached. (joining_state reached.reader ≡ unused) × (joining_state reached.writer ≡ unused)) }
+        ensures untimed { IfOk result (λ reached. is_untimed reached.writer ≡ true) }
+        ensures fresh { IfOk result (λ reached. (end_state reached.reader ≡ unused) × (end_state reached.writer ≡ unused)) }
     {
         match self.callers.get(number) {
             Some(Some(listener)) => self.await_call(listener),
-            _ => connect_by_text(self.rt, self.text(number)),
+            _ => match recording_path(self.text(number)) {
+                Some(path) => opened(self.rt, self.alloc, path, &self.player),
+                None => connect_by_text(self.rt, self.text(number)),
+            },
         }
     }
 
     /// Tries to reach the host of this number, whose turn it is, and tells the log how the try ended, unless it ended
     /// since the run is to stop.
-    fn reach(&mut self, number: usize) -> Result<HostEnds<JoiningLink<R>>, Missed>
-        ensures untimed { IfOk result (λ ends. ends.writer.has_deadline ≡ false) }
-        ensures fresh { IfOk result (λ ends. (joining_state ends.reader ≡ unused) × (joining_state ends.writer ≡ unused)) }
+    fn reach(&mut self, number: usize) -> Result<HostEnds<HostEnd<R>>, Missed>
+        ensures untimed { IfOk result (λ ends. is_untimed ends.writer ≡ true) }
+        ensures fresh { IfOk result (λ ends. (end_state ends.reader ≡ unused) × (end_state ends.writer ≡ unused)) }
         ensures turns { self.new.turns ≡ self.old.turns }
         ensures texts { self.new.texts ≡ self.old.texts }
         ensures lifeline { self.new.lifeline ≡ self.old.lifeline }
     {
         self.is_joined = false;
         self.called = None;
+        self.played = recording_path(self.text(number)).map(|_| number);
         let tried = self.try_host(number);
         let refused = match &tried {
             Ok(reached) => {
-                self.present = Some(reached.address);
+                self.present = reached.address;
                 if reached.has_called {
                     self.called = Some(number);
                 }
@@ -293,7 +317,7 @@ impl<
 
     /// Tells the desk that a host is joined, and has it counted when bytes come over this link. Where memory is refused
     /// for its name it is told without one.
-    fn note_joined(&self, reader: &mut JoiningLink<R>, host: &Joined)
+    fn note_joined(&self, reader: &mut HostEnd<R>, host: &Joined)
         ensures { reader.new ≡ reader.old }
     {
         let name = Quoted {
@@ -333,6 +357,7 @@ impl<
             None => None,
         };
         self.desk.host_left(&self.rt);
+        self.player.end(&self.rt);
         if !self.is_joined {
             self.noted_tries.fail(&self.rt);
         }
@@ -345,6 +370,7 @@ impl<
             let incident = match (cut, skipped) {
                 (Some(cut), _) => Incident::HostStopped(self.present, cut),
                 (None, Some(skip)) if has_ended => Incident::HostSkipped(self.present, skip),
+                (None, None) if has_ended && self.sought().is_some() => Incident::RecordingSought,
                 _ => Incident::Noted(&event),
             };
             self.log.note_incident(&incident);
@@ -393,8 +419,18 @@ impl<
         Some(self.turns.begin_anew(rested))
     }
 
+    /// The number of the host whose turn it was, if it is a recording of which another time is sought.
+    fn sought(&self) -> Option<usize> {
+        let number = self.played?;
+        if self.player.is_sought(&self.rt) {
+            return Some(number);
+        }
+        None
+    }
+
     /// The number of the host that is tried next: that of a host that has called and wasn't joined, so that the next
-    /// that calls there has its turn, or else that of the host whose turn it is.
+    /// that calls there has its turn; that of a recording of which another time is sought; or else that of the host
+    /// whose turn it is.
     fn next_number(&mut self) -> Option<usize>
         ensures texts { self.new.texts ≡ self.old.texts }
         ensures lifeline { self.new.lifeline ≡ self.old.lifeline }
@@ -405,16 +441,24 @@ impl<
             self.noted_tries.begin(&self.rt);
             return Some(number);
         }
+        if let Some(number) = self.sought() {
+            return Some(number);
+        }
         self.turn()
     }
 }
 
 impl<
-    R: Net<Stream = TcpStream, Listener = TcpListener> + Wait + Clock + Copy + Drop,
+    R: Net<Stream = TcpStream, Listener = TcpListener>
+        + Files<File = File>
+        + Wait
+        + Clock
+        + Copy
+        + Drop,
     G: RunLog + Drop,
-> Hosts<JoiningLink<R>> for Supply<R, G> {
-    ghost use Rattle.std.specs.Prelude.{◌≡◌, ◌⊎◌, ◌≤◌, ⊤, None, false};
-    ghost use Rattle.connections.specs.Wires.{joining_state};
+> Hosts<HostEnd<R>> for Supply<R, G> {
+    ghost use Rattle.std.specs.Prelude.{◌≡◌, ◌⊎◌, ◌≤◌, ⊤, None, true};
+    ghost use Rattle.serve.specs.Hosts.{end_state, is_closed, is_untimed};
 
     ghost came = { λ _ _. ⊤ };
 
@@ -424,7 +468,7 @@ impl<
     ghost again = { λ supply. endless (is_some supply.lifeline) supply.turns.again };
 
     #[tactic(auto, using(crate::proofs::Stopping::never))]
-    fn next(&mut self) -> Option<HostEnds<JoiningLink<R>>> {
+    fn next(&mut self) -> Option<HostEnds<HostEnd<R>>> {
         let rt = self.rt;
         for _ in rt.forever() {
             self.stopped = self.is_cut();
@@ -441,11 +485,11 @@ impl<
 
     /// Lifts the deadline of the link that is read. Where the system refuses that, the link is closed, so that the next
     /// host has its turn.
-    fn joined(&mut self, reader: &mut JoiningLink<R>, host: &Joined)
-        ensures link { joining_state reader.new ≡ joining_state reader.old }
+    fn joined(&mut self, reader: &mut HostEnd<R>, host: &Joined)
+        ensures link { end_state reader.new ≡ end_state reader.old }
         ensures again { self.new.turns.again ≡ self.old.turns.again }
-        ensures untimed { (reader.new.has_deadline ≡ false) ⊎ (reader.new.below.is_open ≡ false) }
-        ensures kept { reader.old.has_deadline ≡ false → reader.new.has_deadline ≡ false }
+        ensures untimed { (is_untimed reader.new ≡ true) ⊎ (is_closed reader.new ≡ true) }
+        ensures kept { is_untimed reader.old ≡ true → is_untimed reader.new ≡ true }
         ensures lifeline { self.new.lifeline ≡ self.old.lifeline }
     {
         if reader.lift().is_err() {
@@ -463,7 +507,7 @@ impl<
         });
     }
 
-    fn left(&mut self, reader: &mut JoiningLink<R>, why: Result<(), Fault>) {
+    fn left(&mut self, reader: &mut HostEnd<R>, why: Result<(), Fault>) {
         reader.close();
         self.note_out(why);
     }

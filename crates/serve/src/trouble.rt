@@ -43,6 +43,8 @@ pub(crate) enum Stage {
     LookUp,
     /// Connecting to the host.
     Connect,
+    /// Opening the recording that is the host.
+    OpenRecording,
     /// The handshake with the host of this number, 0 for the first.
     Join(usize),
     /// Starting the threads.

@@ -56,6 +56,8 @@ mod pauses;
 #[cfg(test)]
 mod play;
 #[cfg(test)]
+mod played;
+#[cfg(test)]
 mod proxied;
 #[cfg(test)]
 mod recordings;

@@ -73,7 +73,7 @@ const SCENES: &[Scene] = &[
         status: FAULT,
         lines: &[
             "fault 21",
-            "reflectord: --host listen:localhost:|first| is no IP:PORT, no NAME:PORT and no listen:IP:PORT, ",
+            "reflectord: --host listen:localhost:|first| is no IP:PORT, no NAME:PORT, no listen:IP:PORT and no file:PATH, ",
         ],
     },
     Scene {

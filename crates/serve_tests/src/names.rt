@@ -129,7 +129,7 @@ const SCENES: &[Scene] = &[
         status: FAULT,
         lines: &[
             "fault 21",
-            "reflectord: --host 127.0.0.1::5907 is no IP:PORT, no NAME:PORT and no listen:IP:PORT, ",
+            "reflectord: --host 127.0.0.1::5907 is no IP:PORT, no NAME:PORT, no listen:IP:PORT and no file:PATH, ",
         ],
     },
     Scene {
@@ -142,7 +142,7 @@ const SCENES: &[Scene] = &[
         status: FAULT,
         lines: &[
             "fault 21",
-            "reflectord: desk is no IP:PORT, no NAME:PORT and no listen:IP:PORT, ",
+            "reflectord: desk is no IP:PORT, no NAME:PORT, no listen:IP:PORT and no file:PATH, ",
         ],
     },
 ];

@@ -84,13 +84,13 @@ impl SocketFiles for HostRuntime {
 impl<R: SocketFiles + Drop> Files for Ear<R> {
     type File = File;
 
-    type Dir = io::Empty;
+    type Dir = File;
 
     fn open_file(&self, how: &OpenOptions, path: &str) -> io::Result<File> {
         self.rt.open(how, path)
     }
 
-    fn open_dir(&self, _path: &str) -> io::Result<io::Empty> {
+    fn open_dir(&self, _path: &str) -> io::Result<File> {
         none()
     }
 

@@ -23,16 +23,19 @@ returns-clause-rules c =
     (also c.places-2.ensures.rule
     (also c.option-5.ensures.rule
     (also c.flag-2.ensures.rule
+    (also c.flag-3.ensures.rule
     (also c.web_port.ensures.rule
     (also c.web_port-2.ensures.rule
     (also c.option-6.ensures.rule
     (also c.repeated.ensures.rule
     (also c.option-7.ensures.rule
     (also c.option-8.ensures.rule
-    (also c.flag-3.ensures.rule
+    (also c.flag-4.ensures.rule
     (also c.pause.ensures.rule
-    (also c.seconds.ensures.rule
     (also c.option-9.ensures.rule
     (also c.option-10.ensures.rule
+    (also c.seconds.ensures.rule
+    (also c.option-11.ensures.rule
+    (also c.option-12.ensures.rule
     (also c.seconds-2.ensures.rule
-    (also c.further.ensures.rule refl)))))))))))))))))))))))))
+    (also c.further.ensures.rule refl))))))))))))))))))))))))))))

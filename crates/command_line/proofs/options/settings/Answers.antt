@@ -1,6 +1,6 @@
 use Rattle.std.proofs.Common.{◌∙◌, ap, inl, map, sym}
 use Rattle.clap.specs.Words.{fault_of, found_of, is_simple, is_simple_and_free, matches_of}
-use Rattle.command_line.proofs.Set.{no_room_is, refusal_is, values_set}
+use Rattle.command_line.proofs.Set.{misread_is, refusal_is, values_set}
 use Rattle.command_line.proofs.Taken.{values_there}
 use Rattle.command_line.proofs.options.settings.Goals as goal
 
@@ -22,7 +22,7 @@ pub returns-in-Ok-try_get_matches_from-clause-err : goal.returns-in-Ok-try_get_m
 returns-in-Ok-try_get_matches_from-clause-err g c =
     let words = map g.S.AsStr.text c.args.words.now in
     let rows = (c.in-Ok-try_get_matches_from.ensures.matches (ap is_simple c.in-Ok.ensures)).0 ∙ ap (λ app. matches_of app words) c.in-Ok.ensures in
-    no_room_is (found_of c.in-Ok-try_get_matches_from.matches) words c.in-Err-told.bad.status rows c.in-Err-told.ensures.err
+    misread_is (found_of c.in-Ok-try_get_matches_from.matches) words c.in-Err-told.bad.status rows c.in-Err-told.ensures.err
 
 pub returns : goal.returns
 returns g c =

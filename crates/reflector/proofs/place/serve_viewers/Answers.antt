@@ -31,7 +31,7 @@ close-free-requires-after_bounds g c = λ κs within.
     let place = c.open-busy.ensures.place in let visit = c.open-busy.ensures.visit in let began = c.beginning-began.ensures in
     let met = rw c.in-Ok-Ok.field-0-is at c.in-Ok-Ok.ensures.met in
     let stands = rw c.in-Ok-Ok.field-0-is at c.in-Ok-Ok.ensures.session in
-    let maker = c.loop.free.maker.now in let s = setup_of maker.width maker.height maker.name.items maker.runs maker.host in
+    let maker = c.loop.free.maker.now in let s = setup_of maker.width maker.height maker.name.items maker.form maker.host in
     let serves = rw (visit.1, visit.2, c.stop-in-loop.ensures, place.4, met.5) at (c.run_viewer-why.ensures.serves s maker.role true (rw visit.3 stands)) in
     let grows = rw visit.1 at c.run_viewer-why.ensures.grows in
     rw (place.1, place.3, place.4, began.1, began.2, met.4, met.5)
@@ -42,7 +42,7 @@ loop-preserved g c =
     let place = c.open-busy.ensures.place in let visit = c.open-busy.ensures.visit in let lent = c.close-free.ensures.lent in let parts = c.close-free.ensures.parts in
     let met = rw c.in-Ok-Ok.field-0-is at c.in-Ok-Ok.ensures.met in
     let stands = rw c.in-Ok-Ok.field-0-is at c.in-Ok-Ok.ensures.session in
-    let maker = c.loop.free.maker.now in let s = setup_of maker.width maker.height maker.name.items maker.runs maker.host in
+    let maker = c.loop.free.maker.now in let s = setup_of maker.width maker.height maker.name.items maker.form maker.host in
     let serves = rw (visit.1, visit.2, met.1, met.2, c.stop-in-loop.ensures, place.4, met.5) at (c.run_viewer-why.ensures.serves s maker.role true (rw visit.3 stands)) in
     let grows = rw (visit.1, met.1) at c.run_viewer-why.ensures.grows in
     let received = received_served g.S.ScreenSource.looks g.S.ScreenSource.cuts g.S.ScreenSource.may_end _ g.K.InputSink.may_refuse g.S.ScreenSource.known s maker.role _ _ _ _ _ _ _ (rw visit.0 c.in-Ok-Ok.met.fresh) serves grows in (

@@ -8,5 +8,5 @@ invariant-loop g l =
     × (l.free.maker ≡ l.fn.place.maker) × (l.free.stop ≡ l.fn.place.stop)
     × IsVisiting g.D.Door.lets_in g.D.Door.sees_off
     (λ source_old source_new sent_old sent_new why left. IsReceived g.S.ScreenSource.looks g.S.ScreenSource.cuts g.S.ScreenSource.may_end (g.F.StopFlag.was_set l.fn.place.stop.now) g.K.InputSink.may_refuse
-    g.S.ScreenSource.known (setup_of l.fn.place.maker.now.width l.fn.place.maker.now.height l.fn.place.maker.now.name.items l.fn.place.maker.now.runs l.fn.place.maker.now.host) l.fn.place.maker.now.role source_old source_new sent_old sent_new why left)
+    g.S.ScreenSource.known (setup_of l.fn.place.maker.now.width l.fn.place.maker.now.height l.fn.place.maker.now.name.items l.fn.place.maker.now.form l.fn.place.maker.now.host) l.fn.place.maker.now.role source_old source_new sent_old sent_new why left)
     (at l.fn.place.door l.fn.place.source (g.K.InputSink.sent l.fn.place.sink)) (at l.free.door l.free.source (g.K.InputSink.sent l.free.sink))

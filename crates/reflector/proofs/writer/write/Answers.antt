@@ -19,12 +19,12 @@ pub close-idle-requires-clause-writes : goal.close-idle-requires-clause-writes
 close-idle-requires-clause-writes g c =
     let telling = c.meet-busy.ensures.telling in let began = c.beginning-began.ensures.parts in
     rw (c.meet-busy.ensures.lent.0, c.beginning-began.ensures.fresh, began.1, began.2, began.3)
-    (rw (telling.0, telling.1, telling.2, telling.3) at c.run_writer-why.ensures.writes)
+    (rw (telling.0, telling.1, telling.2, telling.3) at c.run_writer-why.ensures.tells)
 
 pub loop-preserved : goal.loop-preserved
 loop-preserved g c =
     let telling = c.meet-busy.ensures.telling in let parts = c.close-idle.ensures.parts in let met = c.meet-busy.ensures.came in
-    let writes = rw (telling.0, telling.1, telling.2, telling.3) at c.run_writer-why.ensures.writes in (
+    let writes = rw (telling.0, telling.1, telling.2, telling.3) at c.run_writer-why.ensures.tells in (
       tt,
       tt,
       ap g.K.InputSource.relay parts.1 ∙ (c.run_writer-why.ensures.relay ∙ (ap g.K.InputSource.relay telling.2 ∙ c.loop.invariant.2)),

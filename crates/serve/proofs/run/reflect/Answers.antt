@@ -12,5 +12,5 @@ over-requires-clause-doors g c κs _ = counted_all (λ door. door.0) c.args.door
 pub returns : goal.returns
 returns g c =
     let over = c.over.ensures in
-    run_by c.args.settings.now c.over.result c.args.met.joined c.run_screen_of-run_screen.result.width c.run_screen_of-run_screen.result.height c.run_screen_of-run_screen.result.password _ _ _ over.reflected over.room (ap is_some c.run_screen_of-run_screen.ensures.password ∙ c.requires.password) over.roles over.form over.last over.never c.run_screen_of-run_screen.ensures.room c.requires.doors c.runs_of.ensures
+    run_by c.args.settings.now c.over.result c.args.met.joined c.run_screen_of-run_screen.result.width c.run_screen_of-run_screen.result.height c.run_screen_of-run_screen.result.password _ _ _ over.reflected over.room (ap is_some c.run_screen_of-run_screen.ensures.password ∙ c.requires.password) over.roles over.form over.last over.never c.run_screen_of-run_screen.ensures.room c.requires.doors c.form_of.ensures
     (λ none. may_end c.args.settings.now (sym c.requires.again ∙ none))

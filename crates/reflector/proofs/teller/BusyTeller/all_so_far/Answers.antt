@@ -9,7 +9,7 @@ use Rattle.reflector.proofs.teller.BusyTeller.all_so_far.Goals as goal
 pub returns-clause-in_turn : goal.returns-clause-in_turn
 returns-clause-in_turn g c =
     let began = c.args.self.now.began.now in let telling = c.args.telling.now in
-    ∥∥₁_map₂ c.args.self.now.lawful (rw c.requires at c.so_far.ensures.writes) (λ k told. λ w h sizes nothing none. (
+    ∥∥₁_map₂ c.args.self.now.lawful (rw c.requires at c.so_far.ensures.tells) (λ k told. λ w h sizes nothing none. (
       k.0,
       k.1,
       in_turn_with g.S.ScreenSource.looks g.S.ScreenSource.width g.S.ScreenSource.height w h sizes _ _ _

@@ -1,0 +1,125 @@
+//! Recordings that are played as hosts.
+
+use crate::deeds::{Act, Deed};
+use crate::play::{Play, perform_all};
+use crate::refusals::NO_HOST_TO_VIEW;
+use crate::scene::FAULT;
+use crate::steps::{INIT, Step};
+use std::fs;
+use std::test::*;
+
+const VIEWER: &[usize] = &[0];
+
+/// A recording of two blocks, as the form says: the opening of a session of version 3.8, a screen of two pixels and
+/// update 1 at 0 milliseconds, and update 2 after an hour.
+const RECORDED: &[u8] = b"FBS 001.000\n\0\0\0\x43\
+      RFB 003.008\n\x01\x01\0\0\0\0\
+      \0\x02\0\x01\x20\x18\0\x01\0\xFF\0\xFF\0\xFF\x10\x08\0\0\0\0\0\0\0\x01T\
+      \0\0\0\x01\0\0\0\0\0\x02\0\x01\0\0\0\0\x01\0\0\0\x01\0\0\0\0\0\0\0\0\
+      \0\0\0\x18\
+      \0\0\0\x01\0\0\0\0\0\x02\0\x01\0\0\0\0\x02\0\0\0\x02\0\0\0\0\x36\xEE\x80";
+
+/// Its index: the second block is a key moment. It begins behind 88 bytes.
+const INDEX: &[u8] = b"FBI 001.000\n\0\x36\xEE\x80\0\0\0\0\0\0\0\x58";
+
+/// A viewer is shown the recording's beginning. It rests there, and then at another time, of which the viewer is shown
+/// what was recorded then; and it goes on.
+const IT_IS_PLAYED: &[Act] = &[Act {
+    who: VIEWER,
+    deeds: &[
+        Deed::ComesAfter("view", NO_HOST_TO_VIEW),
+        Deed::Does(Step::IsGreeted(INIT)),
+        Deed::Does(Step::IsShown(1)),
+        Deed::Sees("played time=00:0", " paused=no"),
+        Deed::IsObeyed("pause\n", "|done\n|"),
+        Deed::Sees("played time=00:0", " paused=yes"),
+        Deed::IsObeyed(
+            "seek 01:00:01\n",
+            "|error: the recording ends before that time\n|",
+        ),
+        Deed::IsObeyed("seek 01:00:00\n", "|done\n|"),
+        Deed::Does(Step::IsShown(2)),
+        Deed::Sees("played time=01:00:00 paused=yes", ""),
+        Deed::IsObeyed("seek 00:00:07\n", "|done\n|"),
+        Deed::Does(Step::IsShown(1)),
+        Deed::Sees("played time=00:00:07 paused=yes", ""),
+        Deed::IsObeyed("play\n", "|done\n|"),
+        Deed::Sees("played time=00:0", " paused=no"),
+        Deed::Runs(
+            "serve --host file:nobody.fbs --full |nobody| --view |web_view|",
+            "\nreflectord: can't open the recording of file:nobody.fbs: ",
+            FAULT,
+        ),
+        Deed::Runs(
+            "serve --host file: --full |nobody| --view |web_view|",
+            "\nreflectord: ",
+            FAULT,
+        ),
+        Deed::IsObeyed("stop\n", "|done\n|"),
+        Deed::Does(Step::SeesItGo),
+        Deed::Does(Step::Removes),
+    ],
+}];
+
+/// A recording that ends as soon as it has begun is tried again after the pause. Meanwhile nothing is played.
+const IT_BEGINS_ANEW: &[Act] = &[Act {
+    who: VIEWER,
+    deeds: &[
+        Deed::ComesAfter("view", NO_HOST_TO_VIEW),
+        Deed::Does(Step::IsGreeted(INIT)),
+        Deed::Does(Step::IsShown(2)),
+        Deed::Sees("host none", ""),
+        Deed::IsObeyed("pause\n", "|error: no recording is played now\n|"),
+        Deed::IsObeyed("play\n", "|error: no recording is played now\n|"),
+        Deed::IsObeyed("seek 00:00:00\n", "|error: no recording is played now\n|"),
+        Deed::IsObeyed("stop\n", "|done\n|"),
+        Deed::Does(Step::SeesItGo),
+        Deed::Does(Step::Removes),
+    ],
+}];
+
+const PLAYS: &[Play<'static>] = &[
+    Play {
+        name: "a recording is played",
+        words: "--log --host file:played.fbs --view-only --view-places 1 --control control-|full|",
+        notify: "",
+        acts: &[IT_IS_PLAYED],
+        status: 0,
+        lines: &[
+            "listening role=view address=127.0.0.1:|view| places=1",
+            "host-tried recording=\"played.fbs\" why=\"opened\"",
+            "host-joined address=- width=2 height=1 name=\"T\"",
+            "viewer-in place=1 role=view address=*",
+            "host-out address=- why=\"seek\"",
+            "host-tried recording=\"played.fbs\" why=\"opened\"",
+            "host-joined address=- width=2 height=1 name=\"T\"",
+            "host-out address=- why=\"seek\"",
+            "host-tried recording=\"played.fbs\" why=\"opened\"",
+            "host-joined address=- width=2 height=1 name=\"T\"",
+            "viewer-out place=1 role=view address=*",
+            "host-out address=- why=\"stopped\"",
+        ],
+    },
+    Play {
+        name: "a recording begins anew",
+        words: "--log --host file:played.fbs --from 01:00:00 --speed 16 --again 3600 --view-only --view-places 1 --control control-|full|",
+        notify: "",
+        acts: &[IT_BEGINS_ANEW],
+        status: 0,
+        lines: &[
+            "listening role=view address=127.0.0.1:|view| places=1",
+            "host-tried recording=\"played.fbs\" why=\"opened\"",
+            "host-joined address=- width=2 height=1 name=\"T\"",
+            "host-out address=- why=\"ended\"",
+            "viewer-in place=1 role=view address=*",
+            "viewer-out place=1 role=view address=*",
+        ],
+    },
+];
+
+#[test]
+fn recordings_are_played(rt: HostRuntime) -> Result<(), Fail> {
+    fs::write(&rt, "played.fbs", RECORDED)?;
+    fs::write(&rt, "played.fbi", INDEX)?;
+    perform_all(rt, rt.alloc(), PLAYS)
+}
