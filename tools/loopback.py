@@ -188,7 +188,9 @@ def load_demo():
 def build_load(room):
     """The host and viewers of bench/serve, built by gcc."""
     need({"gcc": "gcc"})
+    if not pathlib.Path("/usr/include/zlib.h").exists():
+        sys.exit("missing: apt-get install zlib1g-dev")
     program = pathlib.Path(room) / "load"
     sources = sorted((TOP / "bench" / "serve").glob("*.c"))
-    subprocess.run(["gcc", "-O2", "-pthread", "-o", program, *sources], check=True)
+    subprocess.run(["gcc", "-O2", "-pthread", "-o", program, *sources, "-lz"], check=True)
     return program

@@ -1,4 +1,4 @@
-/* load [-s] [-c] [-o] [-w] PORT WIDTH HEIGHT MODE SECONDS ENCODING SEED
+/* load [-s] [-c] [-o] [-w] [-z] PORT WIDTH HEIGHT MODE SECONDS ENCODING SEED
  *
  * A VNC host at 127.0.0.1:PORT and viewers of what reflects it, in one process with one clock. MODE:
  *   small     64 by 64 pixels of noise at 16 places, 30 to 50 ms apart
@@ -8,8 +8,9 @@
  *   paced     the same, 30 to 50 ms apart
  *   scroll    that page, moved by a line of 16 rows with CopyRect, and a new line
  *   photo     640 by 480 of smooth gradients, as fast as asked
- *   idle      nothing
- * ENCODING of the viewers: raw, rre or hextile; each lists CopyRect too.
+ *   idle      nothing, behind a screen of noise
+ *   page      nothing, behind a screen of letters
+ * ENCODING of the viewers: raw, rre or hextile; each lists CopyRect too. With -z they list ZRLE before it.
  *
  * Prints LISTEN; reads lines "PORT COUNT GROUP" (so many viewers there, whose times are printed by group) until "GO";
  * prints BEGIN and how many viewers have a picture, and END, around the measured time; waits for a line; prints a line
@@ -39,7 +40,7 @@ volatile uint32_t last_update;
 volatile int measuring, stopping, begun, painting = 1;
 
 static struct viewer viewers[MOST_VIEWERS];
-static int viewer_count, group_count, with_stall, with_comparison, on_one, over_web;
+static int viewer_count, group_count, with_stall, with_comparison, on_one, over_web, with_zrle;
 static double seconds;
 
 /* What was counted in the measured time. */
@@ -77,7 +78,8 @@ static void add_viewer(int port, int group, int encoding)
     struct viewer *viewer = &viewers[viewer_count++];
     viewer->port = port;
     viewer->group = group;
-    viewer->encoding = encoding;
+    viewer->encoding = with_zrle ? ZRLE : encoding;
+    viewer->second = encoding;
     viewer->is_web = over_web;
     viewer->screen = on_one && viewer != viewers ? viewers[0].screen : calloc((size_t)script.width * script.height, 4);
     viewer->input = malloc(INPUT_BYTES);
@@ -228,6 +230,7 @@ int main(int count, char **words)
         with_comparison |= words[1][1] == 'c';
         on_one |= words[1][1] == 'o';
         over_web |= words[1][1] == 'w';
+        with_zrle |= words[1][1] == 'z';
     }
     if (count != 8) return 2;
     prctl(PR_SET_PDEATHSIG, SIGKILL);

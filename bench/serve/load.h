@@ -5,6 +5,7 @@
 #include <pthread.h>
 #include <stdint.h>
 #include <stddef.h>
+#include <zlib.h>
 
 #define MOST_UPDATES (1 << 22)
 #define MOST_VIEWERS 512
@@ -13,7 +14,7 @@
 #define FRAMES 3
 #define INPUT_BYTES 65536
 
-enum { RAW = 0, COPY_RECT = 1, RRE = 2, HEXTILE = 5 };
+enum { RAW = 0, COPY_RECT = 1, RRE = 2, HEXTILE = 5, ZRLE = 16 };
 
 /* What is painted. An update's number stands, as a colour of 24 bits, on the last pixel of its area. */
 struct script {
@@ -34,11 +35,13 @@ struct host {
 };
 
 struct viewer {
-    int link, port, group, encoding, shifts[3], is_web;
+    int link, port, group, encoding, second, shifts[3], is_web; /* second: what it takes where ZRLE isn't written */
     uint64_t left; /* of the message that is read, over a WebSocket */
     uint32_t *screen, seen[MOST_PLACES];
     uint8_t *input;
     size_t at, have;
+    z_stream *zlib; /* the connection's stream, from its first rectangle in ZRLE on */
+    uint8_t *tiles;
     uint64_t bytes, pixels, updates, frames, frames_before;
     float *times; /* seconds from an update to this viewer's holding it */
     size_t times_count, times_room;
@@ -71,6 +74,7 @@ int open_web(struct viewer *viewer);
 
 int choose_script(const char *mode, int width, int height);
 void *run_host(void *unused);
+int paint_zrle(struct viewer *viewer, int x, int y, int width, int height);
 int paint_update(struct viewer *viewer);
 void *run_viewer(void *viewer);
 int shows_the_same(const struct viewer *viewer);

@@ -53,7 +53,7 @@ static void choose_areas(void)
             script.x[k] = k % 4 * (script.width / 4) + 37;
             script.y[k] = k / 4 * (script.height / 4) + 21;
         }
-    } else if (script.text || script.photo) {
+    } else if ((script.text || script.photo) && !script.idle) {
         script.area_width = 640;
         script.area_height = script.text ? 400 : 480;
         script.x[0] = script.y[0] = script.text ? 100 : 64;
@@ -72,7 +72,9 @@ int choose_script(const char *mode, int width, int height)
     script.scroll = !strcmp(mode, "scroll");
     script.text = script.scroll || is_paced_text || !strcmp(mode, "desktop");
     script.photo = !strcmp(mode, "photo");
-    script.idle = !strcmp(mode, "idle");
+    int is_page = !strcmp(mode, "page");
+    script.text |= is_page;
+    script.idle = is_page || !strcmp(mode, "idle");
     if (!script.small && !script.full && !script.text && !script.photo && !script.idle) return -1;
     choose_areas();
     if (script.area_width > width - script.x[0] || script.area_height > height - script.y[0]) return -1;

@@ -111,6 +111,7 @@ static int paint_rectangle(struct viewer *viewer)
     case COPY_RECT: return paint_copy(viewer, x, y, width, height);
     case RRE: return paint_rre(viewer, x, y, width, height);
     case HEXTILE: return paint_hextile(viewer, x, y, width, height);
+    case ZRLE: return paint_zrle(viewer, x, y, width, height) ? fault(viewer, "ZRLE that isn't read") : 0;
     }
     return fault(viewer, "an encoding that wasn't asked for");
 }
@@ -150,10 +151,13 @@ static int shake_hands(struct viewer *viewer)
     for (int k = 0; k < 3; k++) viewer->shifts[k] = b[14 + k];
     for (uint32_t left = read_32(b + 20); left; left--)
         if (fetch(viewer, b, 1)) return -1;
-    uint8_t encodings[12] = {2, 0, 0, 2};
+    uint8_t encodings[16] = {2, 0, 0, 2};
     write_32(encodings + 4, viewer->encoding);
     write_32(encodings + 8, COPY_RECT);
-    return tell(viewer, encodings, 12);
+    if (viewer->encoding != ZRLE) return tell(viewer, encodings, 12);
+    encodings[3] = 3;
+    write_32(encodings + 12, viewer->second);
+    return tell(viewer, encodings, 16);
 }
 
 static int ask(struct viewer *viewer, int incremental)
