@@ -1,0 +1,13 @@
+pub mod Beside
+pub mod Colours
+pub mod Earlier
+pub mod Entries
+pub mod Followed
+pub mod Greeted
+pub mod Fronts
+pub mod Hello
+pub mod Pictures
+pub mod Playing
+pub mod Recorded
+pub mod Recorder
+pub mod Vectors

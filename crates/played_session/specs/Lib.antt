@@ -1,0 +1,5 @@
+pub mod ReadAlike
+pub mod Played
+pub mod Recorder
+pub mod Pictures
+pub mod Recorded
