@@ -64,7 +64,7 @@ fn show_command<'a>(alloc: Global) -> Result<Command<'a>, AllocError> {
         .help("The recording");
     let out = Arg::new(alloc, "out")
         .value_name("OUT.png|DIR")
-        .required(true)
+        .required_unless_present("index")?
         .help("The file of the picture, or with --each the folder for pictures");
     let at = option(
         alloc,
@@ -78,12 +78,18 @@ fn show_command<'a>(alloc: Global) -> Result<Command<'a>, AllocError> {
         "SECONDS",
         "Make a picture each so many seconds",
     );
+    let index = flag(
+        alloc,
+        "index",
+        "Write the recording's index beside it, in place of pictures",
+    );
     Command::new(alloc, "show")
-        .about("Makes pictures of a recording, as PNG")
+        .about("Makes pictures of a recording, as PNG, or its index where it is missing")
         .arg(path)?
         .arg(out)?
         .arg(at)?
-        .arg(each)
+        .arg(each)?
+        .arg(index)
 }
 
 /// `reflectord serve`, whose words are those after `serve`.

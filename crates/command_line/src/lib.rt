@@ -1,5 +1,6 @@
 //! The command line of reflectord: `serve` with its options, `control`, which asks something of a run, `show`, which
-//! makes pictures of a recording, and `replay`, which plays a script from standard input. RFC 6143 has no part in it.
+//! makes pictures of a recording or its index, and `replay`, which plays a script from standard input. RFC 6143 has no
+//! part in it.
 //!
 //! Memory: for clap's command and matches, for the texts that are kept, and for the text of a bad line.
 #![tactic(auto)]

@@ -6,6 +6,7 @@ use show::{ShowError, show, show_each};
 use std::alloc::Global;
 use std::rt::Files;
 use std::sync::Wait;
+use written_index::{IndexError, write_index};
 
 /// The exit statuses: of what was done, of a line that can't be read, where there is nothing to show, and where memory
 /// is refused.
@@ -19,7 +20,10 @@ const NO_MEMORY: u8 = 4;
 
 /// What is told of a line that can't be read.
 const USAGE: &str =
-    "reflectord: show PATH [--at HH:MM:SS] OUT.png, or show PATH --each SECONDS DIR, with one second or more";
+    "reflectord: show PATH [--at HH:MM:SS] OUT.png, or show PATH --each SECONDS DIR, with one second or more, or show PATH --index";
+
+/// The option that asks for the index of a recording in the place of pictures.
+const INDEX: &str = "--index";
 
 /// Which pictures of a recording are to be made.
 #[derive(Clone, Copy)]
@@ -30,6 +34,15 @@ enum Times {
     At(u64),
     /// One each so many seconds.
     Each(u32),
+}
+
+/// What a line asks for.
+#[derive(Clone, Copy)]
+enum Wanted<'a> {
+    /// These pictures of the recording at the first path, into the second one.
+    Pictures(Times, &'a str, &'a str),
+    /// The index of the recording at this path, beside it.
+    Index(&'a str),
 }
 
 /// The milliseconds of a time that is written as HH:MM:SS.
@@ -54,32 +67,53 @@ fn times_of(option: &str, value: &str) -> Option<Times> {
     }
 }
 
-/// What a line asks for: which pictures, of which recording, and where they go. An option stands before, between or
-/// behind the two paths.
-fn asked<'a>(words: &'a [String]) -> Option<(Times, &'a str, &'a str)> {
-    let place = words
-        .iter()
-        .position(|word| word.as_str().starts_with("--"));
-    let Some(place) = place else {
-        let (from, to) = paths(words, &[])?;
-        return Some((Times::End, from, to));
-    };
-    let (before, rest) = words.split_at(place);
-    let (option, rest) = rest.split_first()?;
-    let (value, after) = rest.split_first()?;
-    let (from, to) = paths(before, after)?;
-    Some((times_of(option.as_str(), value.as_str())?, from, to))
+/// The path that this word is, unless it is an option.
+fn path(word: &str) -> Option<&str> {
+    if word.starts_with("--") {
+        return None;
+    }
+    Some(word)
+}
+
+/// The only path that stands in these words, before and behind an option.
+fn one_path<'a>(before: &'a [String], after: &'a [String]) -> Option<&'a str> {
+    let mut words = before.iter().chain(after);
+    let only = words.next()?;
+    match words.next() {
+        Some(_) => None,
+        None => path(only.as_str()),
+    }
 }
 
 /// The two paths that stand in these words, before and behind an option.
-fn paths<'a>(before: &'a [String], after: &'a [String]) -> Option<(&'a str, &'a str)> {
+fn two_paths<'a>(before: &'a [String], after: &'a [String]) -> Option<(&'a str, &'a str)> {
     let mut words = before.iter().chain(after);
     let from = words.next()?;
     let to = words.next()?;
     match words.next() {
         Some(_) => None,
-        None => Some((from.as_str(), to.as_str())),
+        None => Some((path(from.as_str())?, path(to.as_str())?)),
     }
+}
+
+/// What a line asks for, whose words are these. Its option stands before, between or behind its paths.
+fn asked<'a>(words: &'a [String]) -> Option<Wanted<'a>> {
+    let place = words
+        .iter()
+        .position(|word| word.as_str().starts_with("--"));
+    let Some(place) = place else {
+        let (from, to) = two_paths(words, &[])?;
+        return Some(Wanted::Pictures(Times::End, from, to));
+    };
+    let (before, rest) = words.split_at(place);
+    let (option, rest) = rest.split_first()?;
+    if option.as_str() == INDEX {
+        return Some(Wanted::Index(one_path(before, rest)?));
+    }
+    let (value, after) = rest.split_first()?;
+    let (from, to) = two_paths(before, after)?;
+    let times = times_of(option.as_str(), value.as_str())?;
+    Some(Wanted::Pictures(times, from, to))
 }
 
 /// Makes the pictures.
@@ -97,27 +131,47 @@ fn make<R: Files + Wait>(
     }
 }
 
+/// The exit status where pictures were made, or weren't. Standard error has the reason.
+fn status_of_pictures<R: Eprint>(rt: &R, from: &str, made: Result<(), ShowError>) -> u8
+    ensures { MayEndAShowing result }
+{
+    let Err(error) = made else {
+        return DONE;
+    };
+    let _ = rt.eprintln(format_args!("reflectord: {from}: {error}"));
+    match error {
+        ShowError::Memory => NO_MEMORY,
+        _ => NOTHING_SHOWN,
+    }
+}
+
+/// The exit status where an index was written, or wasn't. Standard error has the reason.
+fn status_of_index<R: Eprint>(rt: &R, from: &str, written: Result<(), IndexError>) -> u8
+    ensures { MayEndAShowing result }
+{
+    let Err(error) = written else {
+        return DONE;
+    };
+    let _ = rt.eprintln(format_args!("reflectord: {from}: {error}"));
+    match error {
+        IndexError::Memory => NO_MEMORY,
+        _ => NOTHING_SHOWN,
+    }
+}
+
 /// Does what a line of `show` asks for, whose words are these, and answers the exit status: 0; 2 where it can't be read;
 /// 3 where there is nothing to show, or it can't be written; or 4 where memory is refused. Standard error has the reason.
 pub fn show_words<R: Files + Wait + Eprint>(rt: &R, alloc: Global, words: &[String]) -> u8
     ensures { MayEndAShowing result }
 {
-    let Some((times, from, to)) = asked(words.get(1..).unwrap_or(&[])) else {
-        let _ = rt.eprintln(USAGE);
-        return BAD_LINE;
-    };
-    if matches!(times, Times::Each(0)) {
-        let _ = rt.eprintln(USAGE);
-        return BAD_LINE;
-    }
-    match make(rt, alloc, times, from, to) {
-        Ok(()) => DONE,
-        Err(error) => {
-            let _ = rt.eprintln(format_args!("reflectord: {from}: {error}"));
-            match error {
-                ShowError::Memory => NO_MEMORY,
-                _ => NOTHING_SHOWN,
-            }
+    match asked(words.get(1..).unwrap_or(&[])) {
+        None | Some(Wanted::Pictures(Times::Each(0), _, _)) => {
+            let _ = rt.eprintln(USAGE);
+            BAD_LINE
         }
+        Some(Wanted::Pictures(times, from, to)) => {
+            status_of_pictures(rt, from, make(rt, alloc, times, from, to))
+        }
+        Some(Wanted::Index(from)) => status_of_index(rt, from, write_index(rt, alloc, from)),
     }
 }

@@ -18,7 +18,7 @@ pub enum Task {
     Serve(Settings),
     /// To ask something of a run.
     Control,
-    /// To make pictures of a recording.
+    /// To make pictures of a recording, or its index.
     Show,
     /// Nothing that can be done: the line is explained.
     Explain(BadLine),

@@ -1,8 +1,10 @@
 //! Recordings that are played as hosts.
 
 use crate::deeds::{Act, Deed};
+use crate::lines::status_of;
 use crate::play::{Play, perform_all};
 use crate::refusals::NO_HOST_TO_VIEW;
+use crate::room::Room;
 use crate::scene::FAULT;
 use crate::steps::{INIT, Step};
 use std::fs;
@@ -117,9 +119,30 @@ const PLAYS: &[Play<'static>] = &[
     },
 ];
 
+/// Lines that write the index of a recording, and the exit status of each. It isn't written over, and none is written of
+/// what is no recording.
+const INDEXES: &[(&str, u8)] = &[
+    ("show played.fbs --index", 0),
+    ("show --index played.fbs", FAULT),
+    ("show --index unplayed.fbs", FAULT),
+];
+
 #[test]
 fn recordings_are_played(rt: HostRuntime) -> Result<(), Fail> {
+    let alloc = rt.alloc();
     fs::write(&rt, "played.fbs", RECORDED)?;
-    fs::write(&rt, "played.fbi", INDEX)?;
-    perform_all(rt, rt.alloc(), PLAYS)
+    fs::write(&rt, "unplayed.fbs", INDEX)?;
+    let room = Room::new(alloc)?;
+    for (line, status) in INDEXES {
+        if status_of(rt, alloc, room, line) != *status {
+            return Err(Fail::new(line));
+        }
+    }
+    if fs::read(&rt, "played.fbi")?.as_slice() != INDEX {
+        return Err(Fail::new("the index isn't that of the recording"));
+    }
+    if fs::exists(&rt, "unplayed.fbi")? {
+        return Err(Fail::new("an index of no recording"));
+    }
+    perform_all(rt, alloc, PLAYS)
 }

@@ -1,0 +1,3 @@
+pub mod Paths
+pub mod Reasons
+pub mod Written
