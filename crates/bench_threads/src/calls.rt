@@ -32,7 +32,8 @@ fn looks<S: ScreenSource, R: Clock>(rt: &R, source: &mut S) -> Option<u128>
 
 /// Looks this many times, one after another.
 pub fn look_often<S: ScreenSource>(source: &mut S, count: u64)
-    ensures { (S.width source.new ≡ S.width source.old) × (S.height source.new ≡ S.height source.old) }
+    ensures { (S.width source.new ≡ S.width source.old)
+        × (S.height source.new ≡ S.height source.old) }
 {
     for _ in 0..count {
         source.look();

@@ -102,7 +102,8 @@ pub(crate) fn serve_command<'a>(alloc: Global) -> Result<Command<'a>, AllocError
 /// The options of `serve`, in the order in which its help names them.
 fn options<'a>(alloc: Global) -> Result<Vec<Arg<'a>>, AllocError>
     ensures rules { IfOk result (λ options. map rule_of options.items ≡ option_rules) }
-    ensures local { IfOk result (λ options. AllByRecursion (λ option. option.global ≡ false) options.items) }
+    ensures local { IfOk result (λ options.
+        AllByRecursion (λ option. option.global ≡ false) options.items) }
 {
     let options = vec![in alloc;
         host(alloc),

@@ -37,8 +37,10 @@ pub fn settings<'a, S: AsStr>(alloc: Global, words: &'a [S]) -> Result<Settings,
 
 /// Whether settings say how recordings are played, though no host is one.
 fn plays_nothing(settings: &Settings) -> bool
-    ensures option { result ≡ true → (is_some settings.now.from ≡ true) ⊎ (is_some settings.now.speed ≡ true) }
-    ensures host { result ≡ true → (path : List ℕ) → ¬ PlaysFrom (string_bytes settings.now.host) path }
+    ensures option { result ≡ true
+        → (is_some settings.now.from ≡ true) ⊎ (is_some settings.now.speed ≡ true) }
+    ensures host { result ≡ true → (path : List ℕ)
+        → ¬ PlaysFrom (string_bytes settings.now.host) path }
 {
     if settings.from.is_none() && settings.speed.is_none() {
         return false;
@@ -56,7 +58,8 @@ fn plays_nothing(settings: &Settings) -> bool
 fn told(alloc: Global, matches: &ArgMatches<'_>) -> Result<Settings, BadLine>
     requires { HasValues (found_of matches.now) }
     ensures ok { IfOk result (λ s. AreValuesOf (found_of matches.now) s) }
-    ensures err { IfErr result (λ bad. (bad.status ≡ 4) ⊎ ((bad.status ≡ 2) × IsMisread (found_of matches.now))) }
+    ensures err { IfErr result (λ bad.
+        (bad.status ≡ 4) ⊎ ((bad.status ≡ 2) × IsMisread (found_of matches.now))) }
 {
     let room = match room(matches) {
         Ok(room) => room,
@@ -127,7 +130,8 @@ fn values(
 
 fn text(alloc: Global, matches: &ArgMatches<'_>, name: &str) -> Result<String, AllocError>
     requires { HasText (found_of matches.now) name.now }
-    ensures { IfOk result (λ text. first_value (found_of matches.now) name.now ≡ Some (string_bytes text)) }
+    ensures { IfOk result (λ text.
+        first_value (found_of matches.now) name.now ≡ Some (string_bytes text)) }
 {
     String::from_str(alloc, matches.get_str(name).unwrap())
 }
@@ -138,7 +142,8 @@ fn optional_text(
     matches: &ArgMatches<'_>,
     name: &str,
 ) -> Result<Option<String>, AllocError>
-    ensures { IfOk result (λ text. option_map string_bytes text ≡ first_value (found_of matches.now) name.now) }
+    ensures { IfOk result (λ text.
+        option_map string_bytes text ≡ first_value (found_of matches.now) name.now) }
 {
     match matches.get_str(name) {
         Some(text) => Ok(Some(String::from_str(alloc, text)?)),
@@ -191,8 +196,10 @@ fn pause(matches: &ArgMatches<'_>, name: &str) -> Option<u64>
 /// The room of the option, if it is given, or its text where that is of none.
 #[tactic(auto, using(crate::proofs::Rooms::is_room, crate::proofs::Rooms::is_not_told))]
 fn room<'m>(matches: &'m ArgMatches<'_>) -> Result<Option<Room>, &'m str>
-    ensures ok { IfOk result (λ room. IsRoom (first_value (found_of matches.now) (codes "room")) room) }
-    ensures err { IfErr result (λ text. (first_value (found_of matches.now) (codes "room") ≡ Some text.now) × IsNoRoom text.now) }
+    ensures ok { IfOk result (λ room.
+        IsRoom (first_value (found_of matches.now) (codes "room")) room) }
+    ensures err { IfErr result (λ text.
+        (first_value (found_of matches.now) (codes "room") ≡ Some text.now) × IsNoRoom text.now) }
 {
     match matches.get_str("room") {
         Some(text) => match Room::read(text) {
@@ -206,8 +213,10 @@ fn room<'m>(matches: &'m ArgMatches<'_>) -> Result<Option<Room>, &'m str>
 /// The time of the option, if it is given, or its text where that is of none.
 #[tactic(auto, using(crate::proofs::Rooms::is_time, crate::proofs::Rooms::is_no_time_told))]
 fn time<'m>(matches: &'m ArgMatches<'_>) -> Result<Option<ClockTime>, &'m str>
-    ensures ok { IfOk result (λ time. IsTime (first_value (found_of matches.now) (codes "from")) time) }
-    ensures err { IfErr result (λ text. (first_value (found_of matches.now) (codes "from") ≡ Some text.now) × IsNoTime text.now) }
+    ensures ok { IfOk result (λ time.
+        IsTime (first_value (found_of matches.now) (codes "from")) time) }
+    ensures err { IfErr result (λ text.
+        (first_value (found_of matches.now) (codes "from") ≡ Some text.now) × IsNoTime text.now) }
 {
     match matches.get_str("from") {
         Some(text) => match ClockTime::read(text) {
@@ -221,8 +230,10 @@ fn time<'m>(matches: &'m ArgMatches<'_>) -> Result<Option<ClockTime>, &'m str>
 /// The speed of the option, if it is given, or its text where that is of none.
 #[tactic(auto, using(crate::proofs::Rooms::is_speed, crate::proofs::Rooms::is_no_speed_told))]
 fn speed<'m>(matches: &'m ArgMatches<'_>) -> Result<Option<Speed>, &'m str>
-    ensures ok { IfOk result (λ speed. IsSpeed (first_value (found_of matches.now) (codes "speed")) speed) }
-    ensures err { IfErr result (λ text. (first_value (found_of matches.now) (codes "speed") ≡ Some text.now) × IsNoSpeed text.now) }
+    ensures ok { IfOk result (λ speed.
+        IsSpeed (first_value (found_of matches.now) (codes "speed")) speed) }
+    ensures err { IfErr result (λ text.
+        (first_value (found_of matches.now) (codes "speed") ≡ Some text.now) × IsNoSpeed text.now) }
 {
     match matches.get_str("speed") {
         Some(text) => match Speed::read(text) {
@@ -235,7 +246,8 @@ fn speed<'m>(matches: &'m ArgMatches<'_>) -> Result<Option<Speed>, &'m str>
 
 /// All texts under a name, in their order.
 fn texts(alloc: Global, matches: &ArgMatches<'_>, name: &str) -> Result<Vec<String>, AllocError>
-    ensures { IfOk result (λ texts. map string_bytes texts.items ≡ texts_in (found_of matches.now) name.now) }
+    ensures { IfOk result (λ texts.
+        map string_bytes texts.items ≡ texts_in (found_of matches.now) name.now) }
 {
     let mut texts = Vec::new(alloc);
     let Some(words) = matches.get_raw(name) else {

@@ -61,7 +61,9 @@ where
     requires asks { A.pre asks }
     requires shows { H.pre shows }
     requires tells { T.IsAlwaysCallable tells }
-    ensures { (task : Asked) × IsAsked (map string_bytes words.now) task × IsDone (λ settings status. S.post serves settings status) (λ status. P.post plays status) (λ status. A.post asks status) (λ status. H.post shows status) task result }
+    ensures { (task : Asked) × IsAsked (map string_bytes words.now) task
+        × IsDone (λ settings status. S.post serves settings status) (λ status. P.post plays status)
+        (λ status. A.post asks status) (λ status. H.post shows status) task result }
 {
     match task_of(alloc, words) {
         Task::Replay => plays(),

@@ -58,7 +58,12 @@ impl Model for Account {
 
     ghost Value = { LinkState };
 
-    ghost view = { λ a. record { taken = a.taken.bytes; given = a.given.bytes; failed = a.failures; ended = a.ends } };
+    ghost view = { λ a. record {
+      taken = a.taken.bytes;
+      given = a.given.bytes;
+      failed = a.failures;
+      ended = a.ends;
+    } };
 
     ghost invariant = { λ a. (a.failures ≤ 2 ^ 62) × (a.ends ≤ 2 ^ 62) };
 }

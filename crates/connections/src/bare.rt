@@ -21,9 +21,21 @@ impl<S: Socket> Model for BareLink<S> {
 
     ghost Value = { Wired };
 
-    ghost view = { λ l. record { own = l.account; sent = S.sent l.socket; received = S.received l.socket; kept = []; is_open = true } };
+    ghost view = { λ l. record {
+      own = l.account;
+      sent = S.sent l.socket;
+      received = S.received l.socket;
+      kept = [];
+      is_open = true;
+    } };
 
-    ghost invariant = { λ l. Carries (record { own = l.account; sent = S.sent l.socket; received = S.received l.socket; kept = []; is_open = true }) };
+    ghost invariant = { λ l. Carries (record {
+      own = l.account;
+      sent = S.sent l.socket;
+      received = S.received l.socket;
+      kept = [];
+      is_open = true;
+    }) };
 }
 
 impl<S: Socket> BareLink<S> {
@@ -51,7 +63,8 @@ impl<S: Socket> BareLink<S> {
     /// The socket, and the bytes that it has sent and received, which only clauses read.
     pub(crate) fn into_parts(self) -> (S, Record, Record)
         ensures sent { (S.sent result.0 ≡ self.own.given) × (result.1.bytes ≡ self.own.given) }
-        ensures received { (S.received result.0 ≡ self.own.taken) × (result.2.bytes ≡ self.own.taken) }
+        ensures received { (S.received result.0 ≡ self.own.taken)
+            × (result.2.bytes ≡ self.own.taken) }
     {
         let BareLink {
             socket,

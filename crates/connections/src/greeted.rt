@@ -45,9 +45,33 @@ impl<S: Socket> Model for GreetedSocket<S> {
 
     ghost Value = { Greeted };
 
-    ghost view = { λ g. record { sent = g.sent.bytes; received = g.received.bytes; below_sent = S.sent g.socket; below_received = S.received g.socket; spoken = g.spoken.items; owed = drop g.given g.spoken.items; shown = g.shown.items; ahead = drop g.taken g.shown.items; front = g.front.bytes; said = g.said.bytes; heard = g.heard.bytes } };
+    ghost view = { λ g. record {
+      sent = g.sent.bytes;
+      received = g.received.bytes;
+      below_sent = S.sent g.socket;
+      below_received = S.received g.socket;
+      spoken = g.spoken.items;
+      owed = drop g.given g.spoken.items;
+      shown = g.shown.items;
+      ahead = drop g.taken g.shown.items;
+      front = g.front.bytes;
+      said = g.said.bytes;
+      heard = g.heard.bytes;
+    } };
 
-    ghost invariant = { λ g. Matches (record { sent = g.sent.bytes; received = g.received.bytes; below_sent = S.sent g.socket; below_received = S.received g.socket; spoken = g.spoken.items; owed = drop g.given g.spoken.items; shown = g.shown.items; ahead = drop g.taken g.shown.items; front = g.front.bytes; said = g.said.bytes; heard = g.heard.bytes }) × (g.given ≤ length g.spoken.items) × (g.taken ≤ length g.shown.items) };
+    ghost invariant = { λ g. Matches (record {
+      sent = g.sent.bytes;
+      received = g.received.bytes;
+      below_sent = S.sent g.socket;
+      below_received = S.received g.socket;
+      spoken = g.spoken.items;
+      owed = drop g.given g.spoken.items;
+      shown = g.shown.items;
+      ahead = drop g.taken g.shown.items;
+      front = g.front.bytes;
+      said = g.said.bytes;
+      heard = g.heard.bytes;
+    }) × (g.given ≤ length g.spoken.items) × (g.taken ≤ length g.shown.items) };
 }
 
 impl<S: Socket> GreetedSocket<S> {

@@ -51,9 +51,29 @@ impl<S: Socket> Model for Greeting<S> {
 
     ghost Value = { Begun };
 
-    ghost view = { λ g. record { whence = g.whence; key = g.key; challenge = g.challenge; said = g.said; own = g.own.items; asked = g.asked; answered = g.answered.items; sent = S.sent g.socket; received = S.received g.socket } };
+    ghost view = { λ g. record {
+      whence = g.whence;
+      key = g.key;
+      challenge = g.challenge;
+      said = g.said;
+      own = g.own.items;
+      asked = g.asked;
+      answered = g.answered.items;
+      sent = S.sent g.socket;
+      received = S.received g.socket;
+    } };
 
-    ghost invariant = { λ g. IsGreeting (record { whence = g.whence; key = g.key; challenge = g.challenge; said = g.said; own = g.own.items; asked = g.asked; answered = g.answered.items; sent = S.sent g.socket; received = S.received g.socket }) };
+    ghost invariant = { λ g. IsGreeting (record {
+      whence = g.whence;
+      key = g.key;
+      challenge = g.challenge;
+      said = g.said;
+      own = g.own.items;
+      asked = g.asked;
+      answered = g.answered.items;
+      sent = S.sent g.socket;
+      received = S.received g.socket;
+    }) };
 }
 
 /// The error of a peer that has ended.
@@ -262,7 +282,8 @@ impl<S: Socket> Greeting<S> {
     fn exchange_versions(&mut self) -> io::Result<bool>
         requires unasked { self.old.asked ≡ 0 }
         ensures same { IsSameGreeting self.old self.new }
-        ensures over { IfOk result (λ goes_on. goes_on ≡ false → (self.new.said ≡ 12) × (length self.new.own ≡ 12)) }
+        ensures over { IfOk result (λ goes_on.
+            goes_on ≡ false → (self.new.said ≡ 12) × (length self.new.own ≡ 12)) }
     {
         match self.whence.known() {
             None if self.said == 0 => self.hear_header()?,

@@ -29,9 +29,21 @@ impl<S: HostSocket> Model for HostLink<S> {
 
     ghost Value = { Wired };
 
-    ghost view = { λ l. record { own = l.account; sent = S.sent l.socket; received = S.received l.socket; kept = []; is_open = l.is_open } };
+    ghost view = { λ l. record {
+      own = l.account;
+      sent = S.sent l.socket;
+      received = S.received l.socket;
+      kept = [];
+      is_open = l.is_open;
+    } };
 
-    ghost invariant = { λ l. Carries (record { own = l.account; sent = S.sent l.socket; received = S.received l.socket; kept = []; is_open = l.is_open }) };
+    ghost invariant = { λ l. Carries (record {
+      own = l.account;
+      sent = S.sent l.socket;
+      received = S.received l.socket;
+      kept = [];
+      is_open = l.is_open;
+    }) };
 }
 
 impl HostLink {

@@ -51,7 +51,8 @@ impl HostListener {
     /// whether it is to go on. It fails where the system refuses the connection, an option or another descriptor; the
     /// connection is closed then.
     pub fn accept(&self) -> io::Result<Option<HostCall>>
-        ensures came { IfOk result (λ call. IfSome call (λ call. (call.reader ≡ fresh) × (call.writer ≡ fresh))) }
+        ensures came { IfOk result (λ call. IfSome call (λ call.
+            (call.reader ≡ fresh) × (call.writer ≡ fresh))) }
     {
         if !self.is_called() {
             return Ok(None);

@@ -35,7 +35,8 @@ impl<R: Clock + Drop, S: HostSocket> Model for JoiningLink<R, S> {
 
     ghost Value = { Joining };
 
-    ghost view = { λ l. record { below = l.link; failed = l.failures; has_deadline = is_some l.opened } };
+    ghost view = { λ l.
+        record { below = l.link; failed = l.failures; has_deadline = is_some l.opened } };
 }
 
 impl<R: Clock + Drop, S: HostSocket> JoiningLink<R, S> {
@@ -44,7 +45,8 @@ impl<R: Clock + Drop, S: HostSocket> JoiningLink<R, S> {
 
     /// This link, with a deadline ten seconds from now. It fails where the system refuses an option or the clock.
     pub fn new(rt: R, link: HostLink<S>) -> io::Result<JoiningLink<R, S>>
-        ensures below { IfOk result (λ joining. (joining.below ≡ link) × (joining_state joining ≡ link.own)) }
+        ensures below { IfOk result (λ joining.
+            (joining.below ≡ link) × (joining_state joining ≡ link.own)) }
         ensures deadline { IfOk result (λ joining. joining.has_deadline ≡ true) }
     {
         let opened = Instant::now(&rt)?;
@@ -154,7 +156,8 @@ impl<R: Clock + Drop, S: HostSocket> Link for JoiningLink<R, S> {
         requires { 0 < length into.old }
         ensures takes { TakesAs result (joining_state self.old) (joining_state self.new) into.new }
         ensures deadline { self.new.has_deadline ≡ self.old.has_deadline }
-        ensures untimed { self.old.has_deadline ≡ false → TakesAs result self.old.below.own self.new.below.own into.new }
+        ensures untimed { self.old.has_deadline ≡ false
+            → TakesAs result self.old.below.own self.new.below.own into.new }
         ensures open { self.new.below.is_open ≡ self.old.below.is_open }
         ensures closed { self.old.below.is_open ≡ false → result ≡ took.Failed }
     {
@@ -175,7 +178,8 @@ impl<R: Clock + Drop, S: HostSocket> Link for JoiningLink<R, S> {
         requires { 0 < length bytes.now }
         ensures gives { GivesAs result (joining_state self.old) (joining_state self.new) bytes.now }
         ensures deadline { self.new.has_deadline ≡ self.old.has_deadline }
-        ensures untimed { self.old.has_deadline ≡ false → GivesAs result self.old.below.own self.new.below.own bytes.now }
+        ensures untimed { self.old.has_deadline ≡ false
+            → GivesAs result self.old.below.own self.new.below.own bytes.now }
         ensures open { self.new.below.is_open ≡ self.old.below.is_open }
         ensures closed { self.old.below.is_open ≡ false → result ≡ gave.Failed }
     {

@@ -22,9 +22,11 @@ impl Model for Kept {
 
     ghost Value = { KeptBytes };
 
-    ghost view = { λ k. record { bytes = drop k.gone k.bytes.items; room = most_kept - length k.bytes.items } };
+    ghost view = { λ k.
+        record { bytes = drop k.gone k.bytes.items; room = most_kept - length k.bytes.items } };
 
-    ghost invariant = { λ k. (k.gone ≤ length k.bytes.items) × (length k.bytes.items ≤ most_kept) × (most_kept ≤ vec_capacity k.bytes) };
+    ghost invariant = { λ k. (k.gone ≤ length k.bytes.items) × (length k.bytes.items ≤ most_kept)
+        × (most_kept ≤ vec_capacity k.bytes) };
 }
 
 impl Kept {
@@ -79,7 +81,8 @@ impl Kept {
     fn pass(&mut self, count: usize)
         requires { count ≤ length self.old.bytes }
         ensures bytes { self.new.bytes ≡ drop count self.old.bytes }
-        ensures room { self.new.room ≡ (if nat_eq (length self.new.bytes) 0 then most_kept else self.old.room) }
+        ensures room { self.new.room
+            ≡ (if nat_eq (length self.new.bytes) 0 then most_kept else self.old.room) }
     {
         self.gone += count;
         if self.gone == self.bytes.len() {
@@ -91,7 +94,8 @@ impl Kept {
     /// Sends once from what is kept, in order, and answers how many bytes went out. These are no longer kept. Where the
     /// socket fails nothing has changed.
     pub(crate) fn send_to<S: Socket>(&mut self, socket: &mut S) -> io::Result<usize>
-        ensures ok { IfOk result (λ count. (count ≤ length self.old.bytes) × (self.new.bytes ≡ drop count self.old.bytes)) }
+        ensures ok { IfOk result (λ count.
+            (count ≤ length self.old.bytes) × (self.new.bytes ≡ drop count self.old.bytes)) }
         ensures err { OnErr result (self.new ≡ self.old) }
         ensures all { S.sent socket.new ++ self.new.bytes ≡ S.sent socket.old ++ self.old.bytes }
         ensures sent { S.sent socket.new ≡ S.sent socket.old ++ moved result self.old.bytes }
@@ -105,10 +109,13 @@ impl Kept {
     /// Sends once from what is kept, followed by these bytes, in order, and answers how many of both went out. Kept
     /// bytes that went out are no longer kept. Where the socket fails nothing has changed.
     pub(crate) fn send_with<S: Socket>(&mut self, socket: &mut S, bytes: &[u8]) -> io::Result<usize>
-        ensures ok { IfOk result (λ count. (count ≤ length self.old.bytes + length bytes.now) × (self.new.bytes ≡ drop count self.old.bytes)) }
+        ensures ok { IfOk result (λ count. (count ≤ length self.old.bytes + length bytes.now)
+            × (self.new.bytes ≡ drop count self.old.bytes)) }
         ensures err { OnErr result (self.new ≡ self.old) }
-        ensures all { S.sent socket.new ++ self.new.bytes ≡ S.sent socket.old ++ self.old.bytes ++ moved_behind (length self.old.bytes) result bytes.now }
-        ensures sent { S.sent socket.new ≡ S.sent socket.old ++ moved result (self.old.bytes ++ bytes.now) }
+        ensures all { S.sent socket.new ++ self.new.bytes ≡ S.sent socket.old ++ self.old.bytes
+            ++ moved_behind (length self.old.bytes) result bytes.now }
+        ensures sent { S.sent socket.new
+            ≡ S.sent socket.old ++ moved result (self.old.bytes ++ bytes.now) }
         ensures received { S.received socket.new ≡ S.received socket.old }
     {
         let count = socket.send_both(&self.bytes[self.gone..], bytes)?;

@@ -85,7 +85,8 @@ impl Lobby {
         stalled: u64,
         desk: Arc<Desk, Global>,
     ) -> Result<Lobby, AllocError>
-        ensures { IfOk result (λ lobby. (lobby.role ≡ role) × (lobby.key ≡ key) × (lobby.stalled ≡ stalled)) }
+        ensures { IfOk result (λ lobby.
+            (lobby.role ≡ role) × (lobby.key ≡ key) × (lobby.stalled ≡ stalled)) }
     {
         Ok(Lobby {
             role,
@@ -170,7 +171,8 @@ impl Lobby {
         patience: Duration,
     ) -> Entrance
         requires role { entrant.role ≡ self.now.role }
-        requires unlocked { ∥ HasUnlockedBy entrant.way self.now.key entrant.socket.said entrant.socket.heard ∥₁ }
+        requires unlocked { ∥ HasUnlockedBy entrant.way self.now.key
+            entrant.socket.said entrant.socket.heard ∥₁ }
     {
         let is_open = self.desk.entry(rt) == Entry::Open;
         let guard = self.waiting.lock(rt);

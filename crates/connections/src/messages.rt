@@ -53,8 +53,10 @@ impl<S: Socket> MessageSocket<S> {
     pub(crate) fn into_below(self) -> Option<(S, Record, Record)>
         ensures sent { IfSome result (λ below. S.sent below.0 ≡ below.1.bytes) }
         ensures received { IfSome result (λ below. S.received below.0 ≡ below.2.bytes) }
-        ensures said { IfSome result (λ below. data_in (fresh false) below.1.bytes ≡ self.carried.given) }
-        ensures heard { IfSome result (λ below. data_in (fresh true) below.2.bytes ≡ self.carried.taken) }
+        ensures said { IfSome result (λ below.
+            data_in (fresh false) below.1.bytes ≡ self.carried.given) }
+        ensures heard { IfSome result (λ below.
+            data_in (fresh true) below.2.bytes ≡ self.carried.taken) }
     {
         let link = self.link.into_below()?;
         Some(link.into_parts())

@@ -72,7 +72,8 @@ impl TcpEntry {
         ensures role { IfOk result (λ comer. comer.knocker.role ≡ self.now.listener.role) }
         ensures key { IfOk result (λ comer. comer.knocker.greeting.key ≡ self.now.listener.key) }
         ensures whence { IfOk result (λ comer. comer.knocker.greeting.whence ≡ arrival.whence) }
-        ensures lobby { IfOk result (λ comer. arc_value comer.knocker.lobby ≡ arc_value self.now.lobby) }
+        ensures lobby { IfOk result (λ comer.
+            arc_value comer.knocker.lobby ≡ arc_value self.now.lobby) }
     {
         arrival.stream().set_nonblocking(true)?;
         outlast(arrival.stream(), self.lobby.stalled())?;
@@ -115,7 +116,8 @@ impl Port for TcpEntry {
         ensures role { IfSome result (λ comer. comer.knocker.role ≡ self.now.listener.role) }
         ensures key { IfSome result (λ comer. comer.knocker.greeting.key ≡ self.now.listener.key) }
         ensures direct { IfSome result (λ comer. comer.knocker.greeting.whence.is_proxied ≡ false) }
-        ensures lobby { IfSome result (λ comer. arc_value comer.knocker.lobby ≡ arc_value self.now.lobby) }
+        ensures lobby { IfSome result (λ comer.
+            arc_value comer.knocker.lobby ≡ arc_value self.now.lobby) }
     {
         let called = means.next(rt)?;
         let arrival = self.listener.take_in(called)?;
@@ -130,8 +132,10 @@ impl Port for TcpEntry {
     ) -> io::Result<TcpNewcomer>
         ensures role { IfOk result (λ comer. comer.knocker.role ≡ self.now.listener.role) }
         ensures key { IfOk result (λ comer. comer.knocker.greeting.key ≡ self.now.listener.key) }
-        ensures proxied { IfOk result (λ comer. IsTrue comer.knocker.greeting.whence.is_proxied ↔ IsFromProxy self.now.listener.proxy comer.knocker.greeting.whence.peer) }
-        ensures lobby { IfOk result (λ comer. arc_value comer.knocker.lobby ≡ arc_value self.now.lobby) }
+        ensures proxied { IfOk result (λ comer. IsTrue comer.knocker.greeting.whence.is_proxied
+            ↔ IsFromProxy self.now.listener.proxy comer.knocker.greeting.whence.peer) }
+        ensures lobby { IfOk result (λ comer.
+            arc_value comer.knocker.lobby ≡ arc_value self.now.lobby) }
     {
         let arrival = self.listener.accept()?;
         self.greet(rt, arrival)

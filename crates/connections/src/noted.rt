@@ -19,7 +19,8 @@ pub trait Gathering: Read + Write + Drop {
     /// they are.
     fn write_both(&mut self, first: &[u8], second: &[u8]) -> io::Result<usize>
         ensures bound { WritesAtMost result (first.now ++ second.now) }
-        ensures bytes { WriteAppends (Self.contents self.old) (Self.contents self.new) result (first.now ++ second.now) };
+        ensures bytes { WriteAppends (Self.contents self.old) (Self.contents self.new) result
+            (first.now ++ second.now) };
 }
 
 impl Gathering for TcpStream {
@@ -104,7 +105,8 @@ impl<T: Gathering> Socket for Noted<T> {
         ensures bound { WritesAtMost result bytes.now }
         ensures sent { self.new.sent.bytes ≡ self.old.sent.bytes ++ moved result bytes.now }
         ensures received { self.new.received.bytes ≡ self.old.received.bytes }
-        ensures written { WriteAppends (option_and_then T.contents self.old.stream) (option_and_then T.contents self.new.stream) result bytes.now }
+        ensures written { WriteAppends (option_and_then T.contents self.old.stream)
+            (option_and_then T.contents self.new.stream) result bytes.now }
     {
         let Some(stream) = &mut self.stream else {
             return Err(io::Error::from(ErrorKind::NotConnected));
@@ -117,9 +119,11 @@ impl<T: Gathering> Socket for Noted<T> {
 
     fn send_both(&mut self, first: &[u8], second: &[u8]) -> io::Result<usize>
         ensures bound { WritesAtMost result (first.now ++ second.now) }
-        ensures sent { self.new.sent.bytes ≡ self.old.sent.bytes ++ moved result (first.now ++ second.now) }
+        ensures sent { self.new.sent.bytes
+            ≡ self.old.sent.bytes ++ moved result (first.now ++ second.now) }
         ensures received { self.new.received.bytes ≡ self.old.received.bytes }
-        ensures written { WriteAppends (option_and_then T.contents self.old.stream) (option_and_then T.contents self.new.stream) result (first.now ++ second.now) }
+        ensures written { WriteAppends (option_and_then T.contents self.old.stream)
+            (option_and_then T.contents self.new.stream) result (first.now ++ second.now) }
     {
         let Some(stream) = &mut self.stream else {
             return Err(io::Error::from(ErrorKind::NotConnected));
@@ -131,9 +135,11 @@ impl<T: Gathering> Socket for Noted<T> {
 
     fn receive(&mut self, into: &mut [u8]) -> io::Result<usize>
         ensures bound { ReadsAtMost result into.new }
-        ensures received { self.new.received.bytes ≡ self.old.received.bytes ++ moved result into.new }
+        ensures received { self.new.received.bytes
+            ≡ self.old.received.bytes ++ moved result into.new }
         ensures sent { self.new.sent.bytes ≡ self.old.sent.bytes }
-        ensures read { ReadConsumes (option_and_then T.remaining self.old.stream) (option_and_then T.remaining self.new.stream) result into.new }
+        ensures read { ReadConsumes (option_and_then T.remaining self.old.stream)
+            (option_and_then T.remaining self.new.stream) result into.new }
     {
         let Some(stream) = &mut self.stream else {
             return Err(io::Error::from(ErrorKind::NotConnected));
@@ -148,7 +154,8 @@ impl<T: Gathering> Socket for Noted<T> {
 impl Source for Noted<mio::net::TcpStream> {
     ghost use Rattle.std.specs.Prelude.{◌≡◌};
 
-    ghost keeps = { λ old new. (new.sent.bytes ≡ old.sent.bytes) × (new.received.bytes ≡ old.received.bytes) };
+    ghost keeps = { λ old new. (new.sent.bytes ≡ old.sent.bytes)
+        × (new.received.bytes ≡ old.received.bytes) };
 
     fn register(
         &mut self,

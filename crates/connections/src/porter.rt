@@ -342,7 +342,8 @@ pub struct TcpPorter {
 impl TcpPorter {
     /// The porter of this port. It fails where memory is refused, or a poll by the system.
     pub fn new(net: &impl Net, alloc: Global, entry: TcpEntry) -> io::Result<TcpPorter>
-        ensures { IfOk result (λ porter. (arc_value porter.porch.means).role ≡ entry.listener.role) }
+        ensures { IfOk result (λ porter.
+            (arc_value porter.porch.means).role ≡ entry.listener.role) }
     {
         let poll = Poll::new(net)?;
         // A poll tells of a viewer that was called as it tells of one at the port, which has the number 0.

@@ -9,21 +9,24 @@ ghost use Rattle.connections.specs.Keys.{failed_for};
 /// What is said where all places are taken: a handshake of version 3.8 that offers no security type, and the reason
 /// (RFC 6143, 7.1.1 and 7.1.2). It is the same whatever the viewer says, so it can be said at once.
 pub fn refusal_bytes() -> [u8; 37]
-    ensures { (password : Option (List ℕ)) → after (host_hello password) result ≡ Faulty (HostRefused (codes "all places are taken")) }
+    ensures { (password : Option (List ℕ))
+        → after (host_hello password) result ≡ Faulty (HostRefused (codes "all places are taken")) }
 {
     *b"RFB 003.008\n\0\0\0\0\x14all places are taken"
 }
 
 /// What a newcomer is sent that comes before there is a host.
 pub fn no_host_bytes() -> [u8; 28]
-    ensures { (password : Option (List ℕ)) → after (host_hello password) result ≡ Faulty (HostRefused (codes "no host yet")) }
+    ensures { (password : Option (List ℕ))
+        → after (host_hello password) result ≡ Faulty (HostRefused (codes "no host yet")) }
 {
     *b"RFB 003.008\n\0\0\0\0\x0Bno host yet"
 }
 
 /// What a newcomer is sent that comes while an operator lets no viewer in.
 pub fn no_entry_bytes() -> [u8; 36]
-    ensures { (password : Option (List ℕ)) → after (host_hello password) result ≡ Faulty (HostRefused (codes "no viewer is let in")) }
+    ensures { (password : Option (List ℕ))
+        → after (host_hello password) result ≡ Faulty (HostRefused (codes "no viewer is let in")) }
 {
     *b"RFB 003.008\n\0\0\0\0\x13no viewer is let in"
 }

@@ -62,7 +62,8 @@ pub struct Entrant {
 impl RoleListener {
     /// A listener over this socket, for the viewers of this role. Its port is open, and no proxy is believed.
     pub fn new(socket: TcpListener, role: Role) -> RoleListener
-        ensures { (result.socket ≡ socket) × (result.role ≡ role) × (result.key ≡ Open) × (result.proxy ≡ None) }
+        ensures { (result.socket ≡ socket) × (result.role ≡ role) × (result.key ≡ Open)
+            × (result.proxy ≡ None) }
     {
         RoleListener {
             socket,
@@ -113,7 +114,8 @@ impl RoleListener {
     pub fn accept(&self) -> io::Result<Arrival>
         ensures role { IfOk result (λ arrival. arrival.role ≡ self.now.role) }
         ensures key { IfOk result (λ arrival. arrival.key ≡ self.now.key) }
-        ensures proxied { IfOk result (λ arrival. IsTrue arrival.whence.is_proxied ↔ IsFromProxy self.now.proxy arrival.whence.peer) }
+        ensures proxied { IfOk result (λ arrival.
+            IsTrue arrival.whence.is_proxied ↔ IsFromProxy self.now.proxy arrival.whence.peer) }
         ensures front { IfOk result (λ arrival. arrival.whence.front ≡ []) }
     {
         let (stream, peer) = self.socket.accept()?;
@@ -206,7 +208,8 @@ impl Arrival {
         ensures key { IfSome result (λ greeting. greeting.key ≡ self.key) }
         ensures challenge { IfSome result (λ greeting. greeting.challenge ≡ challenge) }
         ensures handshake { IfSome result (λ _. ∥ IsLetIn guest ∥₁) }
-        ensures address { IfSome result (λ greeting. IsKnown self.whence (Some (Ok greeting.whence.peer))) }
+        ensures address { IfSome result (λ greeting.
+            IsKnown self.whence (Some (Ok greeting.whence.peer))) }
         ensures direct { IfSome result (λ greeting. greeting.whence.is_proxied ≡ false) }
     {
         let Some(Ok(address)) = self.whence.known() else {
@@ -231,7 +234,8 @@ impl Arrival {
         ensures open { IfSome result (λ _. self.key ≡ Open) }
         ensures way { IfSome result (λ entrant. entrant.way ≡ Web) }
         ensures handshake { IfSome result (λ _. ∥ IsLetIn guest ∥₁) }
-        ensures address { IfSome result (λ entrant. IsKnown self.whence (Some (Ok entrant.address))) }
+        ensures address { IfSome result (λ entrant.
+            IsKnown self.whence (Some (Ok entrant.address))) }
         ensures socket { IfSome result (λ entrant. entrant.socket ≡ untouched) }
     {
         if !guest.is_let_in() {
@@ -264,7 +268,8 @@ impl Entrant {
         ensures role { IfSome result (λ entrant. entrant.role ≡ role) }
         ensures key { IfSome result (λ entrant. entrant.key ≡ greeting.key) }
         ensures way { IfSome result (λ entrant. entrant.way ≡ Tcp) }
-        ensures address { IfSome result (λ entrant. IsKnown greeting.whence (Some (Ok entrant.address))) }
+        ensures address { IfSome result (λ entrant.
+            IsKnown greeting.whence (Some (Ok entrant.address))) }
     {
         let key = greeting.key();
         let (socket, address) = greeting.done()?;
@@ -324,7 +329,8 @@ impl Entrant {
     /// challenge: the version and a challenge were said to it, and it has answered just that challenge as only someone
     /// does who knows the password. Where its bytes travel in messages, it is so with the data of the frames.
     pub fn has_unlocked(&self)
-        ensures { ∥ HasUnlockedBy self.now.way self.now.key self.now.socket.said self.now.socket.heard ∥₁ }
+        ensures { ∥ HasUnlockedBy self.now.way self.now.key
+            self.now.socket.said self.now.socket.heard ∥₁ }
     {
         let _ = &self.way;
     }

@@ -82,10 +82,22 @@ impl<R: Wait + Clock + Drop, S: Socket> Model for ViewerTcpLink<R, S> {
 
     ghost Value = { Wired };
 
-    ghost view = { λ l. record { own = l.account; sent = S.sent l.socket; received = S.received l.socket; kept = l.kept.bytes; is_open = true } };
+    ghost view = { λ l. record {
+      own = l.account;
+      sent = S.sent l.socket;
+      received = S.received l.socket;
+      kept = l.kept.bytes;
+      is_open = true;
+    } };
 
     // The bytes of the hello that are missing are those of the awaited ones that weren't taken.
-    ghost invariant = { λ l. Carries (record { own = l.account; sent = S.sent l.socket; received = S.received l.socket; kept = l.kept.bytes; is_open = true }) × (l.missing ≡ l.awaited - length l.account.taken) };
+    ghost invariant = { λ l. Carries (record {
+      own = l.account;
+      sent = S.sent l.socket;
+      received = S.received l.socket;
+      kept = l.kept.bytes;
+      is_open = true;
+    }) × (l.missing ≡ l.awaited - length l.account.taken) };
 }
 
 impl<R: Wait + Clock + Drop> ViewerTcpLink<R> {

@@ -36,9 +36,34 @@ impl<L: Link> Model for UnlockedLink<L> {
 
     ghost Value = { StandIn };
 
-    ghost view = { λ u. record { below = L.state u.link; own = record { taken = u.heard.bytes; given = u.said.bytes; failed = u.failures; ended = u.ends }; spoken = u.spoken.items; owed = drop u.given u.spoken.items; shown = u.shown.items; ahead = drop u.taken u.shown.items } };
+    ghost view = { λ u. record {
+      below = L.state u.link;
+      own = record {
+        taken = u.heard.bytes;
+        given = u.said.bytes;
+        failed = u.failures;
+        ended = u.ends;
+      };
+      spoken = u.spoken.items;
+      owed = drop u.given u.spoken.items;
+      shown = u.shown.items;
+      ahead = drop u.taken u.shown.items;
+    } };
 
-    ghost invariant = { λ u. StandsIn (record { below = L.state u.link; own = record { taken = u.heard.bytes; given = u.said.bytes; failed = u.failures; ended = u.ends }; spoken = u.spoken.items; owed = drop u.given u.spoken.items; shown = u.shown.items; ahead = drop u.taken u.shown.items }) × (u.given ≤ length u.spoken.items) × (u.taken ≤ length u.shown.items) × (u.failures ≤ 2 ^ 62) × (u.ends ≤ 2 ^ 62) };
+    ghost invariant = { λ u. StandsIn (record {
+      below = L.state u.link;
+      own = record {
+        taken = u.heard.bytes;
+        given = u.said.bytes;
+        failed = u.failures;
+        ended = u.ends;
+      };
+      spoken = u.spoken.items;
+      owed = drop u.given u.spoken.items;
+      shown = u.shown.items;
+      ahead = drop u.taken u.shown.items;
+    }) × (u.given ≤ length u.spoken.items) × (u.taken ≤ length u.shown.items)
+        × (u.failures ≤ 2 ^ 62) × (u.ends ≤ 2 ^ 62) };
 }
 
 impl<L: Link> UnlockedLink<L> {

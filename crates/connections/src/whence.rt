@@ -50,9 +50,11 @@ impl Model for Whence {
 
     ghost Value = { Seen };
 
-    ghost view = { λ w. record { peer = w.peer; is_proxied = is_some w.reader; front = w.front.bytes } };
+    ghost view = { λ w.
+        record { peer = w.peer; is_proxied = is_some w.reader; front = w.front.bytes } };
 
-    ghost invariant = { λ w. MatchOption w.reader (w.front.bytes ≡ []) (λ reader. ahead reader ≡ after header w.front.bytes) };
+    ghost invariant = { λ w. MatchOption w.reader (w.front.bytes ≡ [])
+        (λ reader. ahead reader ≡ after header w.front.bytes) };
 }
 
 impl Whence {

@@ -25,9 +25,13 @@ impl Model for Reason {
     ghost view = { λ r. take r.len r.bytes };
 
     // The bytes after the reason are zero, so that equal reasons are equal data.
-    ghost invariant = { λ r. (r.len ≡ length (take r.len r.bytes)) × (r.bytes ≡ take r.len r.bytes ++ replicate (LONGEST_REASON - r.len) 0) };
+    ghost invariant = { λ r. (r.len ≡ length (take r.len r.bytes))
+        × (r.bytes ≡ take r.len r.bytes ++ replicate (LONGEST_REASON - r.len) 0) };
 
-    ghost inverse = { λ reason. record { bytes = reason ++ replicate (LONGEST_REASON - length reason) 0; len = length reason } };
+    ghost inverse = { λ reason. record {
+      bytes = reason ++ replicate (LONGEST_REASON - length reason) 0;
+      len = length reason;
+    } };
 
     ghost use Rattle.std.proofs.Common.{arith};
 

@@ -35,7 +35,10 @@ fn row_apart(values: &[u32], w: usize, tile: &Rect, y: usize) -> u64
     requires lies { LiesAmong values.now w tile.now }
     requires wide { tile.now.w ≡ 16 }
     requires row { y < tile.now.h }
-    ensures bits { (x : ℕ) → x < 16 → 0 < y → bit_at result x ≡ bit_of (not (part_of tile.now (value_at w values.now) x y == part_of tile.now (value_at w values.now) x (y - 1))) }
+    ensures bits { (x : ℕ) → x < 16 → 0 < y
+        → bit_at result x ≡ bit_of (not
+        (part_of tile.now (value_at w values.now) x y
+        == part_of tile.now (value_at w values.now) x (y - 1))) }
     ensures few { result < 2 ^ 16 }
 {
     if y == 0 {
@@ -52,7 +55,10 @@ fn rows_apart(values: &[u32], w: usize, tile: &Rect, y: usize) -> u64
     requires lies { LiesAmong values.now w tile.now }
     requires wide { tile.now.w ≡ 16 }
     requires rows { y + 4 ≤ tile.now.h }
-    ensures bits { (r x : ℕ) → r < 4 → x < 16 → 0 < y + r → bit_at result (16 * r + x) ≡ bit_of (not (part_of tile.now (value_at w values.now) x (y + r) == part_of tile.now (value_at w values.now) x (y + r - 1))) }
+    ensures bits { (r x : ℕ) → r < 4 → x < 16 → 0 < y + r
+        → bit_at result (16 * r + x) ≡ bit_of (not
+        (part_of tile.now (value_at w values.now) x (y + r)
+        == part_of tile.now (value_at w values.now) x (y + r - 1))) }
     ensures few { result < 2 ^ 64 }
 {
     join_bits(
@@ -90,10 +96,14 @@ impl TileMarks {
         requires lies { LiesAmong values.now w tile.now }
         requires wide { tile.now.w ≡ 16 }
         requires high { tile.now.h ≡ 16 }
-        requires marks { AreTileMarks (part_of tile.now (value_at w values.now)) self.now.background self.now }
+        requires marks { AreTileMarks (part_of tile.now (value_at w values.now))
+            self.now.background self.now }
         requires word { k < 4 }
-        ensures none { (r x : ℕ) → r < 4 → x < 16 → 0 < 4 * k + r → bit_at result (r * 16 + x) ≡ 0 → IsUnbroken (part_of tile.now (value_at w values.now)) self.now (4 * k + r) x }
-        ensures only { (r x : ℕ) → r < 4 → x < 16 → 0 < 4 * k + r → IsUnbroken (part_of tile.now (value_at w values.now)) self.now (4 * k + r) x → bit_at result (r * 16 + x) ≡ 0 }
+        ensures none { (r x : ℕ) → r < 4 → x < 16 → 0 < 4 * k + r → bit_at result (r * 16 + x) ≡ 0
+            → IsUnbroken (part_of tile.now (value_at w values.now)) self.now (4 * k + r) x }
+        ensures only { (r x : ℕ) → r < 4 → x < 16 → 0 < 4 * k + r
+            → IsUnbroken (part_of tile.now (value_at w values.now)) self.now (4 * k + r) x
+            → bit_at result (r * 16 + x) ≡ 0 }
         ensures few { result < 2 ^ 64 }
     {
         let above = k.saturating_sub(1);
@@ -109,7 +119,8 @@ impl TileMarks {
         requires lies { LiesAmong values.now w tile.now }
         requires wide { tile.now.w ≡ 16 }
         requires high { tile.now.h ≡ 16 }
-        requires marks { AreTileMarks (part_of tile.now (value_at w values.now)) self.now.background self.now }
+        requires marks { AreTileMarks (part_of tile.now (value_at w values.now))
+            self.now.background self.now }
         ensures { AreBreaks (part_of tile.now (value_at w values.now)) self.now result }
     {
         Breaks {
@@ -126,7 +137,11 @@ impl TileMarks {
     #[inline]
     fn four_joins(&self, breaks: &Breaks, k: usize) -> u64
         requires word { k < 4 }
-        ensures bits { (canvas : Canvas) → AreTileMarks canvas self.now.background self.now → AreBreaks canvas self.now breaks.now → (r x : ℕ) → r < 4 → x < 16 → bit_at result (16 * r + x) ≡ bit_of (joins_at canvas self.now.background (4 * k + r) x) }
+        ensures bits { (canvas : Canvas) → AreTileMarks canvas self.now.background self.now
+            → AreBreaks canvas self.now breaks.now
+            → (r x : ℕ) → r < 4 → x < 16
+            → bit_at result (16 * r + x)
+            ≡ bit_of (joins_at canvas self.now.background (4 * k + r) x) }
         ensures few { result < 2 ^ 64 }
     {
         let broken = breaks.words[k] | top_row(k);
@@ -136,7 +151,9 @@ impl TileMarks {
     /// A bit for each position of a whole tile at which a run begins that is joined to one above it.
     #[inline]
     pub fn joins(&self, breaks: &Breaks) -> [u64; 4]
-        ensures { (canvas : Canvas) → AreTileMarks canvas self.now.background self.now → AreBreaks canvas self.now breaks.now → AreJoins canvas self.now.background result }
+        ensures { (canvas : Canvas) → AreTileMarks canvas self.now.background self.now
+            → AreBreaks canvas self.now breaks.now
+            → AreJoins canvas self.now.background result }
     {
         [
             self.four_joins(breaks, 0),

@@ -38,12 +38,19 @@ pub fn choose_kept(
 ) -> Option<Lengths>
     requires wide { (0 < source.now.area.w) × (source.now.area.w < 2 ^ 16) }
     requires high { source.now.area.h < 2 ^ 16 }
-    requires kept { AreKept format.now source.now.area.w source.now.area.h (shows format.now source.now) forms.now }
-    ensures joined { IfSome result (λ lengths. lengths.joined ≡ length (hextile_bytes_as Joined format.now source.now.area.w source.now.area.h (shows format.now source.now))) }
-    ensures rows { IfSome result (λ lengths. lengths.rows ≡ length (hextile_bytes_as OfRows format.now source.now.area.w source.now.area.h (shows format.now source.now))) }
-    ensures none { IfNone result ((256 < tile_count source.now.area.w source.now.area.h) ⊎ ((k : ℕ) × ((k < tile_count source.now.area.w source.now.area.h) × (slice_index_or forms.now k None ≡ None)))) }
-    ensures count { IfSome result (λ _. length chosen.new.items ≡ tile_count source.now.area.w source.now.area.h) }
-    ensures chosen { AreChosenBy format.now source.now.area.w source.now.area.h (shows format.now source.now) forms.now chosen.new.items }
+    requires kept { AreKept format.now source.now.area.w source.now.area.h
+        (shows format.now source.now) forms.now }
+    ensures joined { IfSome result (λ lengths. lengths.joined ≡ length (hextile_bytes_as Joined
+        format.now source.now.area.w source.now.area.h (shows format.now source.now))) }
+    ensures rows { IfSome result (λ lengths. lengths.rows ≡ length (hextile_bytes_as OfRows
+        format.now source.now.area.w source.now.area.h (shows format.now source.now))) }
+    ensures none { IfNone result ((256 < tile_count source.now.area.w source.now.area.h)
+        ⊎ ((k : ℕ) × ((k < tile_count source.now.area.w source.now.area.h)
+        × (slice_index_or forms.now k None ≡ None)))) }
+    ensures count { IfSome result (λ _.
+        length chosen.new.items ≡ tile_count source.now.area.w source.now.area.h) }
+    ensures chosen { AreChosenBy format.now source.now.area.w source.now.area.h
+        (shows format.now source.now) forms.now chosen.new.items }
 {
     chosen.clear();
     let (w, h) = (source.area.w, source.area.h);

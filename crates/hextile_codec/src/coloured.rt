@@ -39,7 +39,8 @@ fn are_rows_coloured(numbers: &[u32], w: usize, tile: &Rect) -> bool
 /// Whether each number of a tile is a colour.
 pub fn is_coloured(numbers: &[u32], w: usize, tile: &Rect) -> bool
     requires { LiesAmong numbers.now w tile.now }
-    ensures { IsTrue result → AreColours tile.now.w tile.now.h (part_of tile.now (value_at w numbers.now)) }
+    ensures { IsTrue result
+        → AreColours tile.now.w tile.now.h (part_of tile.now (value_at w numbers.now)) }
 {
     if tile.w == TILE_SIDE {
         return are_rows_coloured(numbers, w, tile);

@@ -66,7 +66,8 @@ fn tile_corners(values: &[u32], w: usize, tile: &Rect) -> usize
     requires lies { LiesAmong values.now w tile.now }
     requires wide { tile.now.w ≡ 16 }
     requires high { tile.now.h ≤ TILE_SIDE }
-    ensures begun { AreBegun (part_of tile.now (value_at w values.now)) tile.now.h tile.now.h result }
+    ensures begun { AreBegun (part_of tile.now (value_at w values.now))
+        tile.now.h tile.now.h result }
     ensures few { result ≤ 256 }
 {
     let h = tile.h as usize;
@@ -87,7 +88,8 @@ fn tile_corners(values: &[u32], w: usize, tile: &Rect) -> usize
 fn count_same(row: &[u32], other: &[u32]) -> usize
     requires row { length row.now ≡ 16 }
     requires other { length other.now ≡ 16 }
-    ensures same { length (filter (λ x. slice_index row.now x == slice_index other.now x) (range_with_len 0 16)) ≤ result }
+    ensures same { length (filter (λ x. slice_index row.now x == slice_index other.now x)
+        (range_with_len 0 16)) ≤ result }
     ensures few { result ≤ 16 }
 {
     let apart = differences(u32x16::from_slice(row), u32x16::from_slice(other));
@@ -101,7 +103,10 @@ fn count_again(values: &[u32], w: usize, tile: &Rect, y: usize, top: usize, coun
     requires row { y < tile.now.h }
     requires rows { top + count ≤ tile.now.h }
     requires few { count ≤ TILE_SIDE }
-    ensures again { let canvas = part_of tile.now (value_at w values.now) in (value : ℕ) → length (filter (λ x. (canvas x y == value) && is_seen canvas value top count x) (range_with_len 0 16)) ≤ result }
+    ensures again { let canvas = part_of tile.now (value_at w values.now) in
+        (value : ℕ)
+        → length (filter (λ x. (canvas x y == value) && is_seen canvas value top count x)
+        (range_with_len 0 16)) ≤ result }
     ensures few { result ≤ 256 }
 {
     let row = row_of(values, w, tile, y);
@@ -119,7 +124,8 @@ fn most_shown(values: &[u32], w: usize, tile: &Rect, band: usize) -> usize
     requires wide { tile.now.w ≡ 16 }
     requires some { 0 < tile.now.h }
     requires high { tile.now.h ≤ TILE_SIDE }
-    ensures { (value : ℕ) → shown_in (part_of tile.now (value_at w values.now)) value tile.now.h ≤ result }
+    ensures { (value : ℕ)
+        → shown_in (part_of tile.now (value_at w values.now)) value tile.now.h ≤ result }
 {
     let mut top = 0;
     // A value may show once in each column of a band.
@@ -147,8 +153,10 @@ pub fn is_crowded(values: &[u32], w: usize, tile: &Rect, enough: usize) -> bool
     requires wide { tile.now.w ≡ 16 }
     requires h_some { 0 < tile.now.h }
     requires high { tile.now.h ≤ TILE_SIDE }
-    ensures joined { IsTrue result → HasMany Joined 16 tile.now.h (part_of tile.now (value_at w values.now)) enough }
-    ensures rows { IsTrue result → HasMany OfRows 16 tile.now.h (part_of tile.now (value_at w values.now)) enough }
+    ensures joined { IsTrue result
+        → HasMany Joined 16 tile.now.h (part_of tile.now (value_at w values.now)) enough }
+    ensures rows { IsTrue result
+        → HasMany OfRows 16 tile.now.h (part_of tile.now (value_at w values.now)) enough }
 {
     let corners = tile_corners(values, w, tile);
     if corners <= enough {

@@ -32,11 +32,13 @@ pub fn draw<C: Canvas>(
     requires fine { is_failed stage ≡ false }
     requires count { needed format.now stage ≤ length bytes.now }
     requires tile { IsTile area (C.width canvas.old) (C.height canvas.old) }
-    ensures canvas { DrawsIn area (C.width canvas.old) (C.height canvas.old) (C.shows canvas.old) (C.width canvas.new) (C.height canvas.new) (C.shows canvas.new) }
+    ensures canvas { DrawsIn area (C.width canvas.old) (C.height canvas.old) (C.shows canvas.old)
+        (C.width canvas.new) (C.height canvas.new) (C.shows canvas.new) }
     ensures stays { C.Stays canvas.old canvas.new }
     ensures used { needed format.now stage ≤ result.used }
     ensures within { result.used ≤ length bytes.now }
-    ensures drawn { DrawsTo C.keeps format.now area carried stage (take result.used bytes.now) (C.shows canvas.old) (C.shows canvas.new) result }
+    ensures drawn { DrawsTo C.keeps format.now area carried stage (take result.used bytes.now)
+        (C.shows canvas.old) (C.shows canvas.new) result }
 {
     match stage {
         Stage::Mask => draw_mask(format, area, carried, bytes[0], canvas),

@@ -25,7 +25,8 @@ fn take_pixels(values: &[u32], w: usize, tile: &Rect, pixels: &mut Pixels)
     requires w_some { 0 < tile.now.w }
     requires w_most { tile.now.w ≤ TILE_SIDE }
     requires h_most { tile.now.h ≤ TILE_SIDE }
-    ensures { pixels.new.items ≡ values_of tile.now.w tile.now.h (part_of tile.now (value_at w values.now)) }
+    ensures { pixels.new.items
+        ≡ values_of tile.now.w tile.now.h (part_of tile.now (value_at w values.now)) }
 {
     pixels.clear();
     for y in 0..tile.h as usize {
@@ -61,7 +62,8 @@ fn bucket_of(value: u32) -> usize
 /// How many of some values are in each bucket.
 fn count_buckets(values: &[u32]) -> [usize; BUCKETS]
     ensures len { length result ≡ 64 }
-    ensures counts { (value : ℕ) → count_of values.now value ≤ slice_index result (bucket_of value) }
+    ensures counts { (value : ℕ)
+        → count_of values.now value ≤ slice_index result (bucket_of value) }
 {
     let mut counts = [0; BUCKETS];
     for value in values {
@@ -114,7 +116,9 @@ fn shows_most(values: &[u32], w: usize, tile: &Rect, first: u32) -> bool
     requires h_some { 0 < tile.now.h }
     requires h_most { tile.now.h ≤ TILE_SIDE }
     requires first { first ≡ part_of tile.now (value_at w values.now) 0 0 }
-    ensures { IsTrue result → first ≡ most_frequent (values_of tile.now.w tile.now.h (part_of tile.now (value_at w values.now))) }
+    ensures { IsTrue result
+        → first ≡ most_frequent (values_of tile.now.w tile.now.h
+        (part_of tile.now (value_at w values.now))) }
 {
     let mut shown = 0;
     for y in 0..tile.h as usize {
@@ -130,7 +134,8 @@ pub fn find_most(values: &[u32], w: usize, tile: &Rect, pixels: &mut Pixels) -> 
     requires w_most { tile.now.w ≤ TILE_SIDE }
     requires h_some { 0 < tile.now.h }
     requires h_most { tile.now.h ≤ TILE_SIDE }
-    ensures { result ≡ most_frequent (values_of tile.now.w tile.now.h (part_of tile.now (value_at w values.now))) }
+    ensures { result ≡ most_frequent (values_of tile.now.w tile.now.h
+        (part_of tile.now (value_at w values.now))) }
 {
     let first = values[tile.y as usize * w + tile.x as usize];
     if tile.w == TILE_SIDE && shows_most(values, w, tile, first) {
@@ -149,7 +154,10 @@ pub struct Most {
 
 /// The words that have the bits of both.
 fn in_both(words: &[u64; 4], others: &[u64; 4]) -> [u64; 4]
-    ensures { result ≡ bit_and (slice_index words.now 0) (slice_index others.now 0) ∷ bit_and (slice_index words.now 1) (slice_index others.now 1) ∷ bit_and (slice_index words.now 2) (slice_index others.now 2) ∷ bit_and (slice_index words.now 3) (slice_index others.now 3) ∷ [] }
+    ensures { result ≡ bit_and (slice_index words.now 0) (slice_index others.now 0)
+        ∷ bit_and (slice_index words.now 1) (slice_index others.now 1)
+        ∷ bit_and (slice_index words.now 2) (slice_index others.now 2)
+        ∷ bit_and (slice_index words.now 3) (slice_index others.now 3) ∷ [] }
 {
     [
         words[0] & others[0],
@@ -161,7 +169,8 @@ fn in_both(words: &[u64; 4], others: &[u64; 4]) -> [u64; 4]
 
 /// The first position that has a bit.
 fn first_of(words: &[u64; 4]) -> usize
-    requires some { 0 < count_ones (slice_index words.now 0) + count_ones (slice_index words.now 1) + count_ones (slice_index words.now 2) + count_ones (slice_index words.now 3) }
+    requires some { 0 < count_ones (slice_index words.now 0) + count_ones (slice_index words.now 1)
+        + count_ones (slice_index words.now 2) + count_ones (slice_index words.now 3) }
     requires fits { (k : ℕ) → k < 4 → slice_index words.now k < 2 ^ 64 }
     ensures { IsFirst words.now result }
 {
@@ -186,8 +195,10 @@ pub fn find_most_marked(
     requires high { tile.now.h ≡ 16 }
     requires first { first ≡ part_of tile.now (value_at w values.now) 0 0 }
     requires others { AreOthers (part_of tile.now (value_at w values.now)) first others.now }
-    ensures value { result.value ≡ most_frequent (values_of 16 16 (part_of tile.now (value_at w values.now))) }
-    ensures others { AreOthers (part_of tile.now (value_at w values.now)) result.value result.others }
+    ensures value { result.value
+        ≡ most_frequent (values_of 16 16 (part_of tile.now (value_at w values.now))) }
+    ensures others { AreOthers (part_of tile.now (value_at w values.now))
+        result.value result.others }
 {
     let mut best = Most {
         value: first,

@@ -19,7 +19,9 @@ use raster::{Canvas, Rect};
 /// What a mask leads to, where these colours are carried.
 fn after_mask(mask: u8, carried: Colours) -> Stage
     ensures behind { IsBehindMask result }
-    ensures leads { (format : PixelFormat) (w h : ℕ) → step (tile format (carried_by carried) w h) mask ≡ tile_rest format w h (carried_by carried) result blank }
+    ensures leads { (format : PixelFormat) (w h : ℕ)
+        → step (tile format (carried_by carried) w h) mask
+        ≡ tile_rest format w h (carried_by carried) result blank }
 {
     if has(mask, RAW) {
         return Stage::RawPixels(0);
@@ -45,10 +47,12 @@ pub fn draw_head<C: Canvas>(
 ) -> Drawn
     requires count { head_len format.now mask ≤ length bytes.now }
     requires tile { IsTile area (C.width canvas.old) (C.height canvas.old) }
-    ensures canvas { DrawsIn area (C.width canvas.old) (C.height canvas.old) (C.shows canvas.old) (C.width canvas.new) (C.height canvas.new) (C.shows canvas.new) }
+    ensures canvas { DrawsIn area (C.width canvas.old) (C.height canvas.old) (C.shows canvas.old)
+        (C.width canvas.new) (C.height canvas.new) (C.shows canvas.new) }
     ensures stays { C.Stays canvas.old canvas.new }
     ensures used { result.used ≡ head_len format.now mask }
-    ensures drawn { DrawsTo C.keeps format.now area carried (Stage.Head mask) (take result.used bytes.now) (C.shows canvas.old) (C.shows canvas.new) result }
+    ensures drawn { DrawsTo C.keeps format.now area carried (Stage.Head mask)
+        (take result.used bytes.now) (C.shows canvas.old) (C.shows canvas.new) result }
 {
     let (bytes, _) = bytes.split_at(head_len(format, mask));
     let (background, rest) = specified(
@@ -91,10 +95,12 @@ fn draw_announced<C: Canvas>(
     canvas: &mut C,
 ) -> Drawn
     requires tile { IsTile area (C.width canvas.old) (C.height canvas.old) }
-    ensures canvas { DrawsIn area (C.width canvas.old) (C.height canvas.old) (C.shows canvas.old) (C.width canvas.new) (C.height canvas.new) (C.shows canvas.new) }
+    ensures canvas { DrawsIn area (C.width canvas.old) (C.height canvas.old) (C.shows canvas.old)
+        (C.width canvas.new) (C.height canvas.new) (C.shows canvas.new) }
     ensures stays { C.Stays canvas.old canvas.new }
     ensures used { result.used ≡ 1 }
-    ensures drawn { DrawsTo C.keeps format.now area carried (Stage.Head mask) [] (C.shows canvas.old) (C.shows canvas.new) result }
+    ensures drawn { DrawsTo C.keeps format.now area carried (Stage.Head mask) []
+        (C.shows canvas.old) (C.shows canvas.new) result }
 {
     if head_len(format, mask) > 0 {
         return Drawn {
@@ -116,10 +122,12 @@ pub fn draw_mask<C: Canvas>(
     canvas: &mut C,
 ) -> Drawn
     requires tile { IsTile area (C.width canvas.old) (C.height canvas.old) }
-    ensures canvas { DrawsIn area (C.width canvas.old) (C.height canvas.old) (C.shows canvas.old) (C.width canvas.new) (C.height canvas.new) (C.shows canvas.new) }
+    ensures canvas { DrawsIn area (C.width canvas.old) (C.height canvas.old) (C.shows canvas.old)
+        (C.width canvas.new) (C.height canvas.new) (C.shows canvas.new) }
     ensures stays { C.Stays canvas.old canvas.new }
     ensures used { result.used ≡ 1 }
-    ensures drawn { DrawsTo C.keeps format.now area carried Stage.Mask (mask ∷ []) (C.shows canvas.old) (C.shows canvas.new) result }
+    ensures drawn { DrawsTo C.keeps format.now area carried Stage.Mask (mask ∷ [])
+        (C.shows canvas.old) (C.shows canvas.new) result }
 {
     let stage = after_mask(mask, carried);
     match stage {

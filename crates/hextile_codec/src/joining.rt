@@ -42,7 +42,8 @@ fn join(values: &[u32], w: usize, tile: &Rect, runs: &[Run], joined: &mut Found)
     requires h_most { tile.now.h ≤ TILE_SIDE }
     requires rows { All (IsRowRun tile.now.w tile.now.h) runs.now }
     requires few { length runs.now ≤ 256 }
-    ensures { map subrect_of joined.new.items ≡ written Joined (part_of tile.now (value_at w values.now)) tile.now.w tile.now.h (map subrect_of runs.now) }
+    ensures { map subrect_of joined.new.items ≡ written Joined
+        (part_of tile.now (value_at w values.now)) tile.now.w tile.now.h (map subrect_of runs.now) }
 {
     joined.clear();
     for run in runs {
@@ -81,7 +82,8 @@ fn search_whole(
     requires wide { tile.now.w ≡ 16 }
     requires high { tile.now.h ≡ 16 }
     requires first { first ≡ part_of tile.now (value_at w values.now) 0 0 }
-    ensures { AreFound 16 16 (part_of tile.now (value_at w values.now)) (map subrect_of room.new.subrects.items) result }
+    ensures { AreFound 16 16 (part_of tile.now (value_at w values.now))
+        (map subrect_of room.new.subrects.items) result }
 {
     let changes = find_changes(values, w, tile);
     let others = find_others(values, w, tile, first);
@@ -110,7 +112,8 @@ fn search_part(
     requires h_some { 0 < tile.now.h }
     requires h_most { tile.now.h ≤ TILE_SIDE }
     requires first { first ≡ part_of tile.now (value_at w values.now) 0 0 }
-    ensures { AreFound tile.now.w tile.now.h (part_of tile.now (value_at w values.now)) (map subrect_of room.new.subrects.items) result }
+    ensures { AreFound tile.now.w tile.now.h (part_of tile.now (value_at w values.now))
+        (map subrect_of room.new.subrects.items) result }
 {
     let most = find_most(values, w, tile, &mut room.pixels);
     find_each_row(values, w, tile, most, &mut room.runs);
@@ -131,7 +134,8 @@ fn search(values: &[u32], w: usize, tile: &Rect, first: u32, room: &mut TileRoom
     requires h_some { 0 < tile.now.h }
     requires h_most { tile.now.h ≤ TILE_SIDE }
     requires first { first ≡ part_of tile.now (value_at w values.now) 0 0 }
-    ensures { AreFound tile.now.w tile.now.h (part_of tile.now (value_at w values.now)) (map subrect_of room.new.subrects.items) result }
+    ensures { AreFound tile.now.w tile.now.h (part_of tile.now (value_at w values.now))
+        (map subrect_of room.new.subrects.items) result }
 {
     if tile.w == TILE_SIDE && tile.h == TILE_SIDE {
         search_whole(values, w, tile, first, room)
@@ -157,7 +161,8 @@ pub fn find_both(
     requires h_some { 0 < tile.now.h }
     requires h_most { tile.now.h ≤ TILE_SIDE }
     requires some { 0 < enough }
-    ensures { AreSearched tile.now.w tile.now.h (part_of tile.now (value_at w values.now)) enough (map subrect_of room.new.subrects.items) result }
+    ensures { AreSearched tile.now.w tile.now.h (part_of tile.now (value_at w values.now)) enough
+        (map subrect_of room.new.subrects.items) result }
 {
     let first = values[tile.y as usize * w + tile.x as usize];
     if is_plain(values, w, tile, first) {
@@ -189,7 +194,8 @@ pub fn find_rows(
     requires w_most { tile.now.w ≤ TILE_SIDE }
     requires h_some { 0 < tile.now.h }
     requires h_most { tile.now.h ≤ TILE_SIDE }
-    ensures { IsSearched OfRows tile.now.w tile.now.h (part_of tile.now (value_at w values.now)) enough (map subrect_of runs.new.items) result }
+    ensures { IsSearched OfRows tile.now.w tile.now.h (part_of tile.now (value_at w values.now))
+        enough (map subrect_of runs.new.items) result }
 {
     let first = values[tile.y as usize * w + tile.x as usize];
     find_runs(values, w, tile, first, enough, runs).then_some(first)

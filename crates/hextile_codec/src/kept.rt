@@ -91,8 +91,15 @@ impl TileForm {
         requires h_most { tile.now.h ≤ TILE_SIDE }
         requires few { self.now.joined.count ≤ TILE_AREA }
         requires rows_few { self.now.rows.count ≤ TILE_AREA }
-        ensures joined { (colours shown : Canvas) → FormStands self.now tile.now.w tile.now.h colours → ShowsApart format.now tile.now.w tile.now.h colours shown → IsChosen Joined format.now (carried_by said.now.joined) tile.now.w tile.now.h shown (map (tinted_subrect format.now) (map subrect_of self.now.runs.items)) result.joined }
-        ensures rows { (colours shown : Canvas) → FormStands self.now tile.now.w tile.now.h colours → ShowsApart format.now tile.now.w tile.now.h colours shown → IsChosen OfRows format.now (carried_by said.now.rows) tile.now.w tile.now.h shown (subrects_of OfRows tile.now.w tile.now.h shown) result.rows }
+        ensures joined { (colours shown : Canvas)
+            → FormStands self.now tile.now.w tile.now.h colours
+            → ShowsApart format.now tile.now.w tile.now.h colours shown
+            → IsChosen Joined format.now (carried_by said.now.joined) tile.now.w tile.now.h shown
+            (map (tinted_subrect format.now) (map subrect_of self.now.runs.items)) result.joined }
+        ensures rows { (colours shown : Canvas) → FormStands self.now tile.now.w tile.now.h colours
+            → ShowsApart format.now tile.now.w tile.now.h colours shown
+            → IsChosen OfRows format.now (carried_by said.now.rows) tile.now.w tile.now.h shown
+            (subrects_of OfRows tile.now.w tile.now.h shown) result.rows }
         ensures joined_few { result.joined.len ≤ 1025 }
         ensures few { result.rows.len ≤ 1025 }
     {
@@ -107,7 +114,8 @@ impl TileForm {
 
     /// Its joined runs, as they are put.
     pub fn subrects(&self) -> Subrects
-        ensures { (format : PixelFormat) → subrects_in format result ≡ map (tinted_subrect format) (map subrect_of self.now.runs.items) }
+        ensures { (format : PixelFormat) → subrects_in format result
+            ≡ map (tinted_subrect format) (map subrect_of self.now.runs.items) }
     {
         Subrects::of_colours(self.runs.as_slice())
     }
@@ -120,7 +128,8 @@ pub fn form_of_tile(colours: &[u32], w: usize, tile: &Rect, room: &mut TileRoom)
     requires w_most { tile.now.w ≤ TILE_SIDE }
     requires h_some { 0 < tile.now.h }
     requires h_most { tile.now.h ≤ TILE_SIDE }
-    ensures stands { IfSome result (λ form. FormStands form tile.now.w tile.now.h (part_of tile.now (value_at w colours.now))) }
+    ensures stands { IfSome result (λ form.
+        FormStands form tile.now.w tile.now.h (part_of tile.now (value_at w colours.now))) }
 {
     if !is_coloured(colours, w, tile) {
         return None;
@@ -139,7 +148,8 @@ pub fn form_of_tile(colours: &[u32], w: usize, tile: &Rect, room: &mut TileRoom)
 
 /// The form that is kept of tile `k`, if there is one.
 pub fn form_at(forms: &[Option<TileForm>], k: usize) -> Option<&TileForm>
-    ensures some { IfSome result (λ form. (k < length forms.now) × (slice_index_or forms.now k None ≡ Some form.now)) }
+    ensures some { IfSome result (λ form.
+        (k < length forms.now) × (slice_index_or forms.now k None ≡ Some form.now)) }
     ensures none { IfNone result (slice_index_or forms.now k None ≡ None) }
 {
     forms.get(k)?.as_ref()

@@ -128,7 +128,9 @@ pub struct Heads {
 
 /// The heads of a tile of which these backgrounds and joined runs were found.
 pub fn heads_of(found: &Backgrounds, subrects: &[Run]) -> Heads
-    ensures { (w h : ℕ) (canvas : Canvas) → 0 < w → 0 < h → AreFound w h canvas (map subrect_of subrects.now) found.now → IsHeadOf Joined w h canvas result.joined × IsHeadOf OfRows w h canvas result.rows }
+    ensures { (w h : ℕ) (canvas : Canvas) → 0 < w → 0 < h
+        → AreFound w h canvas (map subrect_of subrects.now) found.now
+        → IsHeadOf Joined w h canvas result.joined × IsHeadOf OfRows w h canvas result.rows }
 {
     let kind = kind_of(subrects);
     Heads {
@@ -151,7 +153,11 @@ impl Head {
         requires w_most { tile.now.w ≤ TILE_SIDE }
         requires h_most { tile.now.h ≤ TILE_SIDE }
         requires few { self.now.count ≤ TILE_AREA }
-        ensures choice { (form : Runs) (canvas : Canvas) (found : List Subrect) → IsHeadOf form tile.now.w tile.now.h canvas self.now → found ≡ subrects_of form tile.now.w tile.now.h canvas → IsChosen form format.now (carried_by said.now) tile.now.w tile.now.h canvas found result }
+        ensures choice { (form : Runs) (canvas : Canvas) (found : List Subrect)
+            → IsHeadOf form tile.now.w tile.now.h canvas self.now
+            → found ≡ subrects_of form tile.now.w tile.now.h canvas
+            → IsChosen form format.now (carried_by said.now)
+            tile.now.w tile.now.h canvas found result }
         ensures few { result.len ≤ 1025 }
     {
         let raw = raw_choice(format, tile);
@@ -173,8 +179,14 @@ fn raw_choice(format: &Format, tile: &Rect) -> TileChoice
     requires h_most { tile.now.h ≤ TILE_SIDE }
     ensures len { result.len ≡ 1 + pixel_len format.now * (tile.now.w * tile.now.h) }
     ensures few { result.len ≤ 1025 }
-    ensures least { (form : Runs) (canvas : Canvas) (found : List Subrect) (before : Carried) → 1 + pixel_len format.now * (tile.now.w * tile.now.h) ≤ length (drawn_bytes format.now before (background_of form tile.now.w tile.now.h canvas) (subrects_of form tile.now.w tile.now.h canvas)) → IsChosen form format.now before tile.now.w tile.now.h canvas found result }
-    ensures many { (form : Runs) (canvas : Canvas) (found : List Subrect) (before : Carried) → HasMany form tile.now.w tile.now.h canvas (enough_of format.now tile.now.w tile.now.h) → IsChosen form format.now before tile.now.w tile.now.h canvas found result }
+    ensures least { (form : Runs) (canvas : Canvas) (found : List Subrect) (before : Carried)
+        → 1 + pixel_len format.now * (tile.now.w * tile.now.h)
+        ≤ length (drawn_bytes format.now before (background_of form tile.now.w tile.now.h canvas)
+        (subrects_of form tile.now.w tile.now.h canvas))
+        → IsChosen form format.now before tile.now.w tile.now.h canvas found result }
+    ensures many { (form : Runs) (canvas : Canvas) (found : List Subrect) (before : Carried)
+        → HasMany form tile.now.w tile.now.h canvas (enough_of format.now tile.now.w tile.now.h)
+        → IsChosen form format.now before tile.now.w tile.now.h canvas found result }
 {
     TileChoice {
         kind: Kind::Raw,
@@ -198,7 +210,8 @@ pub fn choose(
     requires w_most { tile.now.w ≤ TILE_SIDE }
     requires h_some { 0 < tile.now.h }
     requires h_most { tile.now.h ≤ TILE_SIDE }
-    ensures { IsChosen OfRows format.now (carried_by said.now) tile.now.w tile.now.h (part_of tile.now (value_at w values.now)) (map subrect_of room.new.runs.items) result }
+    ensures { IsChosen OfRows format.now (carried_by said.now) tile.now.w tile.now.h
+        (part_of tile.now (value_at w values.now)) (map subrect_of room.new.runs.items) result }
 {
     let enough = enough_for(format, tile);
     let Some(background) = find_rows(values, w, tile, enough, &mut room.runs) else {
@@ -216,7 +229,10 @@ pub fn choose(
 /// The kind of a tile of the runs of its rows, by that of its joined runs. In both forms it is told by the tile's values
 /// other than its background.
 fn kind_of_rows(joined: Kind, backgrounds: &Backgrounds) -> Kind
-    ensures { (w h : ℕ) (canvas : Canvas) (found : List Subrect) → 0 < w → 0 < h → AreFound w h canvas found backgrounds.now → joined ≡ kind_of found → result ≡ kind_of (subrects_of OfRows w h canvas) }
+    ensures { (w h : ℕ) (canvas : Canvas) (found : List Subrect) → 0 < w → 0 < h
+        → AreFound w h canvas found backgrounds.now
+        → joined ≡ kind_of found
+        → result ≡ kind_of (subrects_of OfRows w h canvas) }
 {
     if backgrounds.rows == backgrounds.joined {
         return joined;
@@ -242,8 +258,12 @@ pub fn choose_both(
     requires w_most { tile.now.w ≤ TILE_SIDE }
     requires h_some { 0 < tile.now.h }
     requires h_most { tile.now.h ≤ TILE_SIDE }
-    ensures joined { IsChosen Joined format.now (carried_by said.now.joined) tile.now.w tile.now.h (part_of tile.now (value_at w values.now)) (map subrect_of room.new.subrects.items) result.joined }
-    ensures rows { let canvas = part_of tile.now (value_at w values.now) in IsChosen OfRows format.now (carried_by said.now.rows) tile.now.w tile.now.h canvas (subrects_of OfRows tile.now.w tile.now.h canvas) result.rows }
+    ensures joined { IsChosen Joined format.now (carried_by said.now.joined)
+        tile.now.w tile.now.h (part_of tile.now (value_at w values.now))
+        (map subrect_of room.new.subrects.items) result.joined }
+    ensures rows { let canvas = part_of tile.now (value_at w values.now) in
+        IsChosen OfRows format.now (carried_by said.now.rows) tile.now.w tile.now.h canvas
+        (subrects_of OfRows tile.now.w tile.now.h canvas) result.rows }
     ensures few { result.rows.len ≤ 1025 }
 {
     let enough = enough_for(format, tile);
@@ -264,8 +284,10 @@ pub fn choose_both(
 impl Choices {
     /// What the next tile may leave off in each form.
     pub fn leaves(&self) -> Said
-        ensures joined { carried_by result.joined ≡ leaves_of self.now.joined.kind self.now.joined.background }
-        ensures rows { carried_by result.rows ≡ leaves_of self.now.rows.kind self.now.rows.background }
+        ensures joined { carried_by result.joined
+            ≡ leaves_of self.now.joined.kind self.now.joined.background }
+        ensures rows { carried_by result.rows
+            ≡ leaves_of self.now.rows.kind self.now.rows.background }
     {
         Said {
             joined: self.joined.leaves(),

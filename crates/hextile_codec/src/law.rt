@@ -12,5 +12,8 @@ ghost use Rattle.hextile_codec.specs.declared.kind.Head.{Head};
 /// In a format that keeps colours apart, the head of a tile of pixel values is that of its colours, each as its pixel
 /// value: the background, whether the tile is plain, of two colours or of more, and how many subrectangles it has.
 pub fn head_is_tinted()
-    ensures { (form : Runs) (format : PixelFormat) (w h : ℕ) (colours shown : Canvas) (head : Head) → ShowsApart format w h colours shown → IsHeadOf form w h colours head → IsHeadOf form w h shown (tinted_head format head) }
+    ensures { (form : Runs) (format : PixelFormat) (w h : ℕ) (colours shown : Canvas) (head : Head)
+        → ShowsApart format w h colours shown
+        → IsHeadOf form w h colours head
+        → IsHeadOf form w h shown (tinted_head format head) }
 {}

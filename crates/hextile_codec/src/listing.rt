@@ -33,7 +33,9 @@ fn has_bit(words: &[u64; 4], x: usize, y: usize) -> bool
 fn height(joins: &[u64; 4], x: usize, y: usize) -> usize
     requires column { x < 16 }
     requires row { y < 16 }
-    ensures value { (canvas : Canvas) (background : ℕ) → AreJoins canvas background joins.now → begins_run canvas background y x ≡ true → result ≡ 1 + rows_below canvas 16 16 (run_from canvas 16 y x) }
+    ensures value { (canvas : Canvas) (background : ℕ) → AreJoins canvas background joins.now
+        → begins_run canvas background y x ≡ true
+        → result ≡ 1 + rows_below canvas 16 16 (run_from canvas 16 y x) }
     ensures within { y + result ≤ 16 }
 {
     let mut end = y + 1;
@@ -57,10 +59,14 @@ fn add_joined(
     requires wide { tile.now.w ≡ 16 }
     requires high { tile.now.h ≡ 16 }
     requires word { k < 4 }
-    requires marks { AreTileMarks (part_of tile.now (value_at w values.now)) marks.now.background marks.now }
-    requires joins { AreJoins (part_of tile.now (value_at w values.now)) marks.now.background joins.now }
+    requires marks { AreTileMarks (part_of tile.now (value_at w values.now))
+        marks.now.background marks.now }
+    requires joins { AreJoins (part_of tile.now (value_at w values.now))
+        marks.now.background joins.now }
     requires room { array_vec_len found.old + 64 ≤ TILE_AREA }
-    ensures added { let canvas = part_of tile.now (value_at w values.now) in map subrect_of found.new.items ≡ map subrect_of found.old.items ++ written Joined canvas 16 16 (runs_of_rows canvas marks.now.background 16 (4 * k) 4) }
+    ensures added { let canvas = part_of tile.now (value_at w values.now) in
+        map subrect_of found.new.items ≡ map subrect_of found.old.items
+        ++ written Joined canvas 16 16 (runs_of_rows canvas marks.now.background 16 (4 * k) 4) }
     ensures few { array_vec_len found.new ≤ array_vec_len found.old + 64 }
 {
     let mut begins = marks.begins[k] ^ joins[k];
@@ -91,9 +97,12 @@ pub fn list_joined(
     requires lies { LiesAmong values.now w tile.now }
     requires wide { tile.now.w ≡ 16 }
     requires high { tile.now.h ≡ 16 }
-    requires marks { AreTileMarks (part_of tile.now (value_at w values.now)) marks.now.background marks.now }
-    requires joins { AreJoins (part_of tile.now (value_at w values.now)) marks.now.background joins.now }
-    ensures { map subrect_of found.new.items ≡ joined_runs (part_of tile.now (value_at w values.now)) marks.now.background 16 16 }
+    requires marks { AreTileMarks (part_of tile.now (value_at w values.now))
+        marks.now.background marks.now }
+    requires joins { AreJoins (part_of tile.now (value_at w values.now))
+        marks.now.background joins.now }
+    ensures { map subrect_of found.new.items
+        ≡ joined_runs (part_of tile.now (value_at w values.now)) marks.now.background 16 16 }
 {
     found.clear();
     add_joined(values, w, tile, 0, marks, joins, found);

@@ -20,7 +20,8 @@ const ROW: u64 = 1 << 16;
 pub fn differences(row: u32x16, other: u32x16) -> u64
     requires row { length row ≡ 16 }
     requires other { length other ≡ 16 }
-    ensures bits { (x : ℕ) → x < 16 → bit_at result x ≡ bit_of (not (slice_index row x == slice_index other x)) }
+    ensures bits { (x : ℕ) → x < 16
+        → bit_at result x ≡ bit_of (not (slice_index row x == slice_index other x)) }
     ensures few { result < 2 ^ 16 }
 {
     row.simd_ne(other).to_bitmask()
@@ -56,9 +57,12 @@ impl Marks {
 /// The marks of a row of 16.
 fn mark_row(row: &[u32], background: u32) -> Marks
     requires { length row.now ≡ 16 }
-    ensures begins { (x : ℕ) → x < 16 → bit_at result.begins x ≡ bit_of (begins_run (row_shows row.now) background 0 x) }
+    ensures begins { (x : ℕ) → x < 16
+        → bit_at result.begins x ≡ bit_of (begins_run (row_shows row.now) background 0 x) }
     ensures few { result.begins < 2 ^ 16 }
-    ensures ends { (x : ℕ) → x + 1 < 16 → bit_at result.ends x ≡ bit_of (not (slice_index row.now x == slice_index row.now (x + 1))) }
+    ensures ends { (x : ℕ) → x + 1 < 16
+        → bit_at result.ends x
+        ≡ bit_of (not (slice_index row.now x == slice_index row.now (x + 1))) }
     ensures last { bit_at result.ends 15 ≡ 1 }
     ensures small { result.ends < 2 ^ 16 }
 {

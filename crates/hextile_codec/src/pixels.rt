@@ -36,7 +36,10 @@ fn draw_row<C: Canvas>(format: &Format, x: u64, y: u64, count: usize, bytes: &[u
     ensures width { C.width canvas.new ≡ C.width canvas.old }
     ensures height { C.height canvas.new ≡ C.height canvas.old }
     ensures stays { C.Stays canvas.old canvas.new }
-    ensures shows { LooksLike (C.width canvas.old) (C.height canvas.old) (C.shows canvas.new) (lay (record { x = x; y = y; w = count; h = 1 }) (kept C.keeps (value_at count (pixels_in format.now count bytes.now))) (C.shows canvas.old)) }
+    ensures shows { LooksLike (C.width canvas.old) (C.height canvas.old) (C.shows canvas.new)
+        (lay (record { x = x; y = y; w = count; h = 1 })
+        (kept C.keeps (value_at count (pixels_in format.now count bytes.now)))
+        (C.shows canvas.old)) }
 {
     if format.spells_words() {
         let (words, _) = bytes.as_chunks::<VALUE_LEN>();
@@ -75,11 +78,13 @@ pub fn draw_pixels<C: Canvas>(
     requires some { come < area.w * area.h }
     requires count { pixel_len format.now ≤ length bytes.now }
     requires tile { IsTile area (C.width canvas.old) (C.height canvas.old) }
-    ensures canvas { DrawsIn area (C.width canvas.old) (C.height canvas.old) (C.shows canvas.old) (C.width canvas.new) (C.height canvas.new) (C.shows canvas.new) }
+    ensures canvas { DrawsIn area (C.width canvas.old) (C.height canvas.old) (C.shows canvas.old)
+        (C.width canvas.new) (C.height canvas.new) (C.shows canvas.new) }
     ensures stays { C.Stays canvas.old canvas.new }
     ensures used { pixel_len format.now ≤ result.used }
     ensures within { result.used ≤ length bytes.now }
-    ensures drawn { DrawsTo C.keeps format.now area carried (Stage.RawPixels come) (take result.used bytes.now) (C.shows canvas.old) (C.shows canvas.new) result }
+    ensures drawn { DrawsTo C.keeps format.now area carried (Stage.RawPixels come)
+        (take result.used bytes.now) (C.shows canvas.old) (C.shows canvas.new) result }
 {
     let size = format.bytes();
     let mut count = come;

@@ -43,7 +43,8 @@ impl Subrects<'_> {
 
     /// Those of runs with their colours.
     pub fn of_colours(runs: &[Run]) -> Subrects
-        ensures { (format : PixelFormat) → subrects_in format result ≡ map (tinted_subrect format) (map subrect_of runs.now) }
+        ensures { (format : PixelFormat)
+            → subrects_in format result ≡ map (tinted_subrect format) (map subrect_of runs.now) }
     {
         Subrects {
             runs,
@@ -93,7 +94,8 @@ fn put_byte(byte: u8, out: &mut [u8], used: usize) -> usize
 fn put_places(runs: &[Run], out: &mut [u8], used: usize)
     requires small { All IsSmall runs.now }
     requires room { used + 2 * length runs.now ≤ length out.old }
-    ensures { take (used + 2 * length runs.now) out.new ≡ take used out.old ++ flat_map place_bytes (map subrect_of runs.now) }
+    ensures { take (used + 2 * length runs.now) out.new
+        ≡ take used out.old ++ flat_map place_bytes (map subrect_of runs.now) }
 {
     let mut at = used;
     for run in runs {
@@ -106,7 +108,8 @@ fn put_places(runs: &[Run], out: &mut [u8], used: usize)
 fn put_coloured_runs(format: &Format, runs: &[Run], out: &mut [u8], used: usize)
     requires small { All IsSmall runs.now }
     requires room { used + (pixel_len format.now + 2) * length runs.now ≤ length out.old }
-    ensures { take (used + (pixel_len format.now + 2) * length runs.now) out.new ≡ take used out.old ++ flat_map (coloured_bytes format.now) (map subrect_of runs.now) }
+    ensures { take (used + (pixel_len format.now + 2) * length runs.now) out.new
+        ≡ take used out.old ++ flat_map (coloured_bytes format.now) (map subrect_of runs.now) }
 {
     // A copy, which nothing that is written to `out` can change, so that it is looked at once.
     let format = *format;
@@ -136,7 +139,8 @@ fn tint_next(format: &Format, colour: u32, value: u32, next: u32) -> u32
 fn put_tinted_runs(format: &Format, runs: &[Run], out: &mut [u8], used: usize)
     requires small { All IsSmall runs.now }
     requires room { used + (pixel_len format.now + 2) * length runs.now ≤ length out.old }
-    ensures { take (used + (pixel_len format.now + 2) * length runs.now) out.new ≡ take used out.old ++ flat_map (coloured_bytes format.now) (map (subrect_in format.now true) runs.now) }
+    ensures { take (used + (pixel_len format.now + 2) * length runs.now) out.new ≡ take used out.old
+        ++ flat_map (coloured_bytes format.now) (map (subrect_in format.now true) runs.now) }
 {
     // A copy, as above.
     let format = *format;
@@ -156,8 +160,11 @@ fn put_tinted_runs(format: &Format, runs: &[Run], out: &mut [u8], used: usize)
 /// Puts subrectangles with their pixel values from index `used` of `out` on.
 fn put_runs(format: &Format, subrects: &Subrects, out: &mut [u8], used: usize)
     requires small { All IsSmall subrects.now.runs.now }
-    requires room { used + (pixel_len format.now + 2) * length subrects.now.runs.now ≤ length out.old }
-    ensures { take (used + (pixel_len format.now + 2) * length subrects.now.runs.now) out.new ≡ take used out.old ++ flat_map (coloured_bytes format.now) (subrects_in format.now subrects.now) }
+    requires room { used + (pixel_len format.now + 2) * length subrects.now.runs.now
+        ≤ length out.old }
+    ensures { take (used + (pixel_len format.now + 2) * length subrects.now.runs.now) out.new
+        ≡ take used out.old
+        ++ flat_map (coloured_bytes format.now) (subrects_in format.now subrects.now) }
 {
     if subrects.are_colours {
         put_tinted_runs(format, subrects.runs, out, used);
@@ -190,8 +197,13 @@ fn put_two_colours(
     requires small { All IsSmall subrects.now.runs.now }
     requires few { length subrects.now.runs.now ≤ 255 }
     requires is { kind_of (subrects_in format.now subrects.now) ≡ Kind.TwoColours foreground }
-    requires room { used + drawn_len format.now (carried_by said.now) background (Kind.TwoColours foreground) (length subrects.now.runs.now) ≤ length out.old }
-    ensures { take (used + drawn_len format.now (carried_by said.now) background (Kind.TwoColours foreground) (length subrects.now.runs.now)) out.new ≡ take used out.old ++ drawn_bytes format.now (carried_by said.now) background (subrects_in format.now subrects.now) }
+    requires room { used + drawn_len format.now (carried_by said.now)
+        background (Kind.TwoColours foreground) (length subrects.now.runs.now)
+        ≤ length out.old }
+    ensures { take (used + drawn_len format.now (carried_by said.now) background
+        (Kind.TwoColours foreground) (length subrects.now.runs.now)) out.new
+        ≡ take used out.old ++ drawn_bytes format.now (carried_by said.now) background
+        (subrects_in format.now subrects.now) }
 {
     let bits = if is_said(said.foreground, foreground) {
         ANY_SUBRECTS
@@ -218,8 +230,13 @@ fn put_coloured(
     requires small { All IsSmall subrects.now.runs.now }
     requires few { length subrects.now.runs.now ≤ 255 }
     requires is { kind_of (subrects_in format.now subrects.now) ≡ Kind.Coloured }
-    requires room { used + drawn_len format.now (carried_by said.now) background Kind.Coloured (length subrects.now.runs.now) ≤ length out.old }
-    ensures { take (used + drawn_len format.now (carried_by said.now) background Kind.Coloured (length subrects.now.runs.now)) out.new ≡ take used out.old ++ drawn_bytes format.now (carried_by said.now) background (subrects_in format.now subrects.now) }
+    requires room { used + drawn_len format.now (carried_by said.now)
+        background Kind.Coloured (length subrects.now.runs.now)
+        ≤ length out.old }
+    ensures { take (used + drawn_len format.now (carried_by said.now)
+        background Kind.Coloured (length subrects.now.runs.now)) out.new
+        ≡ take used out.old ++ drawn_bytes format.now (carried_by said.now) background
+        (subrects_in format.now subrects.now) }
 {
     let mask = background_bit(said, background) + ANY_SUBRECTS + SUBRECTS_COLOURED;
     let at = put_byte(mask, out, used);
@@ -240,8 +257,13 @@ pub fn put_drawn(
     requires small { All IsSmall subrects.now.runs.now }
     requires few { length subrects.now.runs.now ≤ 255 }
     requires is { choice.now.kind ≡ kind_of (subrects_in format.now subrects.now) }
-    requires room { used + drawn_len format.now (carried_by said.now) choice.now.background choice.now.kind (length subrects.now.runs.now) ≤ length out.old }
-    ensures { take (used + drawn_len format.now (carried_by said.now) choice.now.background choice.now.kind (length subrects.now.runs.now)) out.new ≡ take used out.old ++ drawn_bytes format.now (carried_by said.now) choice.now.background (subrects_in format.now subrects.now) }
+    requires room { used + drawn_len format.now (carried_by said.now)
+        choice.now.background choice.now.kind (length subrects.now.runs.now)
+        ≤ length out.old }
+    ensures { take (used + drawn_len format.now (carried_by said.now)
+        choice.now.background choice.now.kind (length subrects.now.runs.now)) out.new
+        ≡ take used out.old ++ drawn_bytes format.now (carried_by said.now) choice.now.background
+        (subrects_in format.now subrects.now) }
 {
     let background = choice.background;
     match choice.kind {
@@ -275,7 +297,9 @@ pub fn put_raw(format: &Format, values: &[u32], w: usize, tile: &Rect, out: &mut
     requires across { tile.now.x + tile.now.w ≤ w }
     requires down { (tile.now.y + tile.now.h) * w ≤ length values.now }
     requires room { used + 1 + pixel_len format.now * (tile.now.w * tile.now.h) ≤ length out.old }
-    ensures { take (used + 1 + pixel_len format.now * (tile.now.w * tile.now.h)) out.new ≡ take used out.old ++ 1 ∷ raw_bytes format.now (values_of tile.now.w tile.now.h (part_of tile.now (value_at w values.now))) }
+    ensures { take (used + 1 + pixel_len format.now * (tile.now.w * tile.now.h)) out.new
+        ≡ take used out.old ++ 1 ∷ raw_bytes format.now
+        (values_of tile.now.w tile.now.h (part_of tile.now (value_at w values.now))) }
 {
     let first = tile.y as usize * w + tile.x as usize;
     let mut at = put_byte(RAW, out, used);

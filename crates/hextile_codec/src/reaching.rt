@@ -18,7 +18,8 @@ impl Reach {
     fn twice(&self, n: u32) -> Reach
         requires some { 0 < n }
         requires few { n < 64 }
-        ensures { (clean ends : ℕ) → Covers clean ends n self.now → Covers clean ends (n + n) result }
+        ensures { (clean ends : ℕ) → Covers clean ends n self.now
+            → Covers clean ends (n + n) result }
     {
         Reach {
             clear: self.clear & self.clear >> n,

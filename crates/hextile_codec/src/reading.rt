@@ -52,7 +52,8 @@ impl Model for Reader {
       begun = r.begun.items;
     } };
 
-    ghost invariant = { λ r. IsPlace r.format r.width r.height r.tiles r.tile r.area r.stage (length r.begun.items) };
+    ghost invariant = { λ r. IsPlace r.format r.width r.height r.tiles r.tile r.area r.stage
+        (length r.begun.items) };
 }
 
 impl Reader {
@@ -64,7 +65,8 @@ impl Reader {
         ensures width { result.width ≡ w }
         ensures height { result.height ≡ h }
         ensures begins { (part : Part) → ahead result (nothing_read part) ≡ hextile format w h }
-        ensures stands { (keep : ℕ → ℕ) (canvas : Map ℕ) (part : Part) → Stands keep result canvas (nothing_read part) }
+        ensures stands { (keep : ℕ → ℕ) (canvas : Map ℕ) (part : Part)
+            → Stands keep result canvas (nothing_read part) }
     {
         Reader {
             format,
@@ -87,7 +89,11 @@ impl Reader {
     /// Whether the rectangle is read to its end. Then a canvas on which it drew shows its tiles.
     pub fn whole(&self) -> bool
         ensures whole { (sofar : Sofar) → result ≡ is_some (whole_of (ahead self.now sofar)) }
-        ensures shows { (keep : ℕ → ℕ) (canvas : Map ℕ) (sofar : Sofar) (tiles : List Tile) → Stands keep self.now canvas sofar → ahead self.now sofar ≡ Done tiles → LooksLike self.now.width self.now.height canvas (kept keep (tiled self.now.width self.now.height tiles)) }
+        ensures shows { (keep : ℕ → ℕ) (canvas : Map ℕ) (sofar : Sofar) (tiles : List Tile)
+            → Stands keep self.now canvas sofar
+            → ahead self.now sofar ≡ Done tiles
+            → LooksLike self.now.width self.now.height canvas
+            (kept keep (tiled self.now.width self.now.height tiles)) }
     {
         self.tile == self.tiles
     }
@@ -105,7 +111,9 @@ impl Reader {
         ensures width { C.width canvas.new ≡ self.old.width }
         ensures height { C.height canvas.new ≡ self.old.height }
         ensures stays { C.Stays canvas.old canvas.new }
-        ensures drawn { (sofar : Sofar) → Stands C.keeps self.old (C.shows canvas.old) sofar → Steps ahead (Stands C.keeps) self.old self.new (C.shows canvas.new) (take result bytes.now) sofar }
+        ensures drawn { (sofar : Sofar) → Stands C.keeps self.old (C.shows canvas.old) sofar
+            → Steps ahead (Stands C.keeps) self.old self.new (C.shows canvas.new)
+            (take result bytes.now) sofar }
     {
         let drawn = draw(
             &self.format,
@@ -143,7 +151,9 @@ impl Reader {
         ensures within { IfOk result (λ used. used ≤ length piece.now) }
         ensures some { IsWanting self.old → 0 < length piece.now → IfOk result (λ used. 0 < used) }
         ensures fine { OnOk result ((sofar : Sofar) → fault_of (ahead self.new sofar) ≡ None) }
-        ensures drawn { (sofar : Sofar) → Stands C.keeps self.old (C.shows canvas.old) sofar → Draws ahead (Stands C.keeps) self.old self.new (C.shows canvas.new) piece.now result sofar }
+        ensures drawn { (sofar : Sofar) → Stands C.keeps self.old (C.shows canvas.old) sofar
+            → Draws ahead (Stands C.keeps) self.old self.new (C.shows canvas.new)
+            piece.now result sofar }
     {
         read_piece(self, canvas, piece)
     }

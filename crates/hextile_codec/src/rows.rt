@@ -11,7 +11,8 @@ pub fn row_of<'a>(values: &'a [u32], w: usize, tile: &Rect, y: usize) -> &'a [u3
     requires lies { LiesAmong values.now w tile.now }
     requires row { y < tile.now.h }
     ensures len { length result.now ≡ tile.now.w }
-    ensures values { (x : ℕ) → x < tile.now.w → slice_index result.now x ≡ part_of tile.now (value_at w values.now) x y }
+    ensures values { (x : ℕ) → x < tile.now.w
+        → slice_index result.now x ≡ part_of tile.now (value_at w values.now) x y }
 {
     let start = tile.y as usize * w + tile.x as usize + y * w;
     &values[start..start + tile.w as usize]

@@ -70,7 +70,9 @@ fn is_all(row: &[u32], value: u32) -> bool
 /// Whether a tile shows its background alone. A whole row is compared at once, and nothing else is done.
 pub fn is_plain(values: &[u32], w: usize, tile: &Rect, background: u32) -> bool
     requires { LiesAmong values.now w tile.now }
-    ensures { IsTrue result → runs_over (part_of tile.now (value_at w values.now)) background tile.now.w tile.now.h ≡ [] }
+    ensures { IsTrue result
+        → runs_over (part_of tile.now (value_at w values.now)) background
+        tile.now.w tile.now.h ≡ [] }
 {
     for y in 0..tile.h as usize {
         if !is_all(row_of(values, w, tile, y), background) {
@@ -88,7 +90,8 @@ pub fn add_marked(values: &[u32], w: usize, tile: &Rect, y: usize, marks: Marks,
     requires high { tile.now.h ≤ TILE_SIDE }
     requires marks { AreMarks (part_of tile.now (value_at w values.now)) marks.background y marks }
     requires room { array_vec_len runs.old + 64 ≤ TILE_AREA }
-    ensures added { map subrect_of runs.new.items ≡ map subrect_of runs.old.items ++ runs_of_rows (part_of tile.now (value_at w values.now)) marks.background 16 y 4 }
+    ensures added { map subrect_of runs.new.items ≡ map subrect_of runs.old.items
+        ++ runs_of_rows (part_of tile.now (value_at w values.now)) marks.background 16 y 4 }
     ensures few { array_vec_len runs.new ≤ array_vec_len runs.old + 64 }
 {
     let mut begins = marks.begins;
@@ -120,7 +123,9 @@ fn find_marked(
     requires lies { LiesAmong values.now w tile.now }
     requires wide { tile.now.w ≡ 16 }
     requires high { tile.now.h ≡ 16 }
-    ensures { IsTrue result → map subrect_of found.new.items ≡ runs_over (part_of tile.now (value_at w values.now)) background 16 16 }
+    ensures { IsTrue result
+        → map subrect_of found.new.items
+        ≡ runs_over (part_of tile.now (value_at w values.now)) background 16 16 }
 {
     let first = mark_rows(values, w, tile, 0, background);
     if first.count() >= DENSE {
@@ -147,7 +152,8 @@ fn add_row(row: &[u32], y: usize, background: u32, runs: &mut Found)
     requires wide { length row.now ≤ TILE_SIDE }
     requires high { y < TILE_SIDE }
     requires room { array_vec_len runs.old + length row.now ≤ TILE_AREA }
-    ensures added { map subrect_of runs.new.items ≡ map subrect_of runs.old.items ++ runs_of_row (row_shows row.now) background (length row.now) y }
+    ensures added { map subrect_of runs.new.items ≡ map subrect_of runs.old.items
+        ++ runs_of_row (row_shows row.now) background (length row.now) y }
     ensures few { array_vec_len runs.new ≤ array_vec_len runs.old + length row.now }
 {
     if row[0] == background && is_all(row, background) {
@@ -185,9 +191,15 @@ fn find_by_rows(
     requires h_some { 0 < tile.now.h }
     requires h_most { tile.now.h ≤ TILE_SIDE }
     requires background { background ≡ part_of tile.now (value_at w values.now) 0 0 }
-    ensures all { let all = runs_over (part_of tile.now (value_at w values.now)) background tile.now.w tile.now.h in IsTrue result → map subrect_of found.new.items ≡ all }
-    ensures many { let all = runs_over (part_of tile.now (value_at w values.now)) background tile.now.w tile.now.h in result ≡ false → enough ≤ length all }
-    ensures mixed { let all = runs_over (part_of tile.now (value_at w values.now)) background tile.now.w tile.now.h in result ≡ false → has_one_value all ≡ false }
+    ensures all { let all = runs_over (part_of tile.now (value_at w values.now))
+        background tile.now.w tile.now.h in
+        IsTrue result → map subrect_of found.new.items ≡ all }
+    ensures many { let all = runs_over (part_of tile.now (value_at w values.now))
+        background tile.now.w tile.now.h in
+        result ≡ false → enough ≤ length all }
+    ensures mixed { let all = runs_over (part_of tile.now (value_at w values.now))
+        background tile.now.w tile.now.h in
+        result ≡ false → has_one_value all ≡ false }
 {
     found.clear();
     let mut judged = false;
@@ -221,9 +233,15 @@ pub fn find_runs(
     requires h_some { 0 < tile.now.h }
     requires h_most { tile.now.h ≤ TILE_SIDE }
     requires background { background ≡ part_of tile.now (value_at w values.now) 0 0 }
-    ensures all { let all = runs_over (part_of tile.now (value_at w values.now)) background tile.now.w tile.now.h in IsTrue result → map subrect_of found.new.items ≡ all }
-    ensures many { let all = runs_over (part_of tile.now (value_at w values.now)) background tile.now.w tile.now.h in result ≡ false → enough ≤ length all }
-    ensures mixed { let all = runs_over (part_of tile.now (value_at w values.now)) background tile.now.w tile.now.h in result ≡ false → has_one_value all ≡ false }
+    ensures all { let all = runs_over (part_of tile.now (value_at w values.now))
+        background tile.now.w tile.now.h in
+        IsTrue result → map subrect_of found.new.items ≡ all }
+    ensures many { let all = runs_over (part_of tile.now (value_at w values.now))
+        background tile.now.w tile.now.h in
+        result ≡ false → enough ≤ length all }
+    ensures mixed { let all = runs_over (part_of tile.now (value_at w values.now))
+        background tile.now.w tile.now.h in
+        result ≡ false → has_one_value all ≡ false }
 {
     if is_plain(values, w, tile, background) {
         found.clear();
@@ -244,7 +262,8 @@ pub fn find_each_row(values: &[u32], w: usize, tile: &Rect, background: u32, fou
     requires w_some { 0 < tile.now.w }
     requires w_most { tile.now.w ≤ TILE_SIDE }
     requires h_most { tile.now.h ≤ TILE_SIDE }
-    ensures { map subrect_of found.new.items ≡ runs_over (part_of tile.now (value_at w values.now)) background tile.now.w tile.now.h }
+    ensures { map subrect_of found.new.items
+        ≡ runs_over (part_of tile.now (value_at w values.now)) background tile.now.w tile.now.h }
 {
     found.clear();
     for y in 0..tile.h as usize {

@@ -49,7 +49,9 @@ impl<'a> PixelSource<'a> {
     /// the format is the host's, in which a colour is its own pixel value.
     fn has_values_at(&self, place: &Rect, format: &Format) -> bool
         requires { LiesAmong self.now.numbers.now self.now.width place.now }
-        ensures stand { IsTrue result → (x y : ℕ) → x < place.now.w → y < place.now.h → let number = part_of place.now (value_at self.now.width self.now.numbers.now) x y in (if self.now.are_colours then tint format.now number else number) ≡ number }
+        ensures stand { IsTrue result → (x y : ℕ) → x < place.now.w → y < place.now.h
+            → let number = part_of place.now (value_at self.now.width self.now.numbers.now) x y in
+            (if self.now.are_colours then tint format.now number else number) ≡ number }
         ensures colours { result ≡ false → self.now.are_colours ≡ true }
     {
         !self.are_colours || (format.is_host() && is_coloured(self.numbers, self.width, place))
@@ -62,7 +64,8 @@ impl<'a> PixelSource<'a> {
         requires within { IsWithin tile.now self.now.area.w self.now.area.h }
         requires w_some { 0 < tile.now.w }
         requires room { length values.old ≡ tile.now.w * tile.now.h }
-        ensures { AreRead result self.now tile.now (part_of tile.now (shows format.now self.now)) values.new }
+        ensures { AreRead result self.now tile.now
+            (part_of tile.now (shows format.now self.now)) values.new }
     {
         let place = self.place_of(tile);
         if self.has_values_at(&place, format) {
@@ -91,7 +94,8 @@ impl<'a> PixelSource<'a> {
         requires w_most { tile.now.w ≤ TILE_SIDE }
         requires h_most { tile.now.h ≤ TILE_SIDE }
         requires room { length values.now ≡ tile.now.w * tile.now.h }
-        ensures { (canvas : Canvas) → AreRead is_read self.now tile.now canvas values.now → AreOfTile result tile.now.w tile.now.h canvas }
+        ensures { (canvas : Canvas) → AreRead is_read self.now tile.now canvas values.now
+            → AreOfTile result tile.now.w tile.now.h canvas }
     {
         if !is_read {
             return TileValues {

@@ -13,10 +13,13 @@ use raster::{Canvas, Rect};
 /// Draws a subrectangle, and answers whether it lies in its tile. If it doesn't, nothing is drawn.
 fn draw_subrect<C: Canvas>(area: Rect, value: u32, position: u8, size: u8, canvas: &mut C) -> bool
     requires tile { IsTile area (C.width canvas.old) (C.height canvas.old) }
-    ensures canvas { DrawsIn area (C.width canvas.old) (C.height canvas.old) (C.shows canvas.old) (C.width canvas.new) (C.height canvas.new) (C.shows canvas.new) }
+    ensures canvas { DrawsIn area (C.width canvas.old) (C.height canvas.old) (C.shows canvas.old)
+        (C.width canvas.new) (C.height canvas.new) (C.shows canvas.new) }
     ensures stays { C.Stays canvas.old canvas.new }
     ensures inside { result ≡ is_within (place_in position size) area.w area.h }
-    ensures drawn { result ≡ true → LooksLike area.w area.h (part_of area (C.shows canvas.new)) (fill (place_in position size) (C.keeps value) (part_of area (C.shows canvas.old))) }
+    ensures drawn { result ≡ true
+        → LooksLike area.w area.h (part_of area (C.shows canvas.new))
+        (fill (place_in position size) (C.keeps value) (part_of area (C.shows canvas.old))) }
 {
     let subrect = Rect {
         x: u64::from(position / 16),
@@ -49,11 +52,13 @@ pub fn draw_subrects<C: Canvas>(
     requires some { 0 < left }
     requires count { colour_len format.now coloured + 2 ≤ length bytes.now }
     requires tile { IsTile area (C.width canvas.old) (C.height canvas.old) }
-    ensures canvas { DrawsIn area (C.width canvas.old) (C.height canvas.old) (C.shows canvas.old) (C.width canvas.new) (C.height canvas.new) (C.shows canvas.new) }
+    ensures canvas { DrawsIn area (C.width canvas.old) (C.height canvas.old) (C.shows canvas.old)
+        (C.width canvas.new) (C.height canvas.new) (C.shows canvas.new) }
     ensures stays { C.Stays canvas.old canvas.new }
     ensures used { colour_len format.now coloured + 2 ≤ result.used }
     ensures within { result.used ≤ length bytes.now }
-    ensures drawn { DrawsTo C.keeps format.now area carried (Stage.Subrects coloured left) (take result.used bytes.now) (C.shows canvas.old) (C.shows canvas.new) result }
+    ensures drawn { DrawsTo C.keeps format.now area carried (Stage.Subrects coloured left)
+        (take result.used bytes.now) (C.shows canvas.old) (C.shows canvas.new) result }
 {
     let needed = needed(format, Stage::Subrects { coloured, left });
     let mut left = left;

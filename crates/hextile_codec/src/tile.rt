@@ -37,12 +37,25 @@ pub fn choose_tile(
     requires within { IsWithin tile.now source.now.area.w source.now.area.h }
     requires size { IsTileSize tile.now.w tile.now.h }
     requires room { length values.old ≡ tile.now.w * tile.now.h }
-    requires kept { IfSome form (λ f. (colours : Canvas) × FormStands f.now tile.now.w tile.now.h colours × ShowsApart format.now tile.now.w tile.now.h colours (part_of tile.now (shows format.now source.now))) }
-    ensures kept { IfSome form.entry (λ f. IsChosen Joined format.now (carried_by said.now.joined) tile.now.w tile.now.h (part_of tile.now (shows format.now source.now)) (map (tinted_subrect format.now) (map subrect_of f.now.runs.items)) result.joined) }
-    ensures seen { IfNone form.entry (IsChosen Joined format.now (carried_by said.now.joined) tile.now.w tile.now.h (part_of tile.now (shows format.now source.now)) (map subrect_of room.new.subrects.items) result.joined) }
-    ensures rows { let canvas = part_of tile.now (shows format.now source.now) in IsChosen OfRows format.now (carried_by said.now.rows) tile.now.w tile.now.h canvas (subrects_of OfRows tile.now.w tile.now.h canvas) result.rows }
-    ensures len { result.joined.len ≡ length (tile_bytes_as Joined format.now (carried_by said.now.joined) tile.now.w tile.now.h (part_of tile.now (shows format.now source.now))).0 }
-    ensures leaves { leaves_of result.joined.kind result.joined.background ≡ (tile_bytes_as Joined format.now (carried_by said.now.joined) tile.now.w tile.now.h (part_of tile.now (shows format.now source.now))).1 }
+    requires kept { IfSome form (λ f.
+        (colours : Canvas) × FormStands f.now tile.now.w tile.now.h colours
+        × ShowsApart format.now tile.now.w tile.now.h colours
+        (part_of tile.now (shows format.now source.now))) }
+    ensures kept { IfSome form.entry (λ f. IsChosen Joined format.now (carried_by said.now.joined)
+        tile.now.w tile.now.h (part_of tile.now (shows format.now source.now))
+        (map (tinted_subrect format.now) (map subrect_of f.now.runs.items)) result.joined) }
+    ensures seen { IfNone form.entry (IsChosen Joined format.now (carried_by said.now.joined)
+        tile.now.w tile.now.h (part_of tile.now (shows format.now source.now))
+        (map subrect_of room.new.subrects.items) result.joined) }
+    ensures rows { let canvas = part_of tile.now (shows format.now source.now) in
+        IsChosen OfRows format.now (carried_by said.now.rows) tile.now.w tile.now.h canvas
+        (subrects_of OfRows tile.now.w tile.now.h canvas) result.rows }
+    ensures len { result.joined.len
+        ≡ length (tile_bytes_as Joined format.now (carried_by said.now.joined) tile.now.w tile.now.h
+        (part_of tile.now (shows format.now source.now))).0 }
+    ensures leaves { leaves_of result.joined.kind result.joined.background
+        ≡ (tile_bytes_as Joined format.now (carried_by said.now.joined) tile.now.w tile.now.h
+        (part_of tile.now (shows format.now source.now))).1 }
     ensures few { result.rows.len ≤ 1025 }
 {
     if let Some(form) = form {
@@ -67,7 +80,9 @@ pub fn choose_rows(
     requires within { IsWithin tile.now source.now.area.w source.now.area.h }
     requires size { IsTileSize tile.now.w tile.now.h }
     requires room { length values.old ≡ tile.now.w * tile.now.h }
-    ensures { IsChosen OfRows format.now (carried_by said.now) tile.now.w tile.now.h (part_of tile.now (shows format.now source.now)) (map subrect_of room.new.runs.items) result }
+    ensures { IsChosen OfRows format.now (carried_by said.now)
+        tile.now.w tile.now.h (part_of tile.now (shows format.now source.now))
+        (map subrect_of room.new.runs.items) result }
 {
     let is_read = source.read(tile, format, values);
     let seen = source.seen(is_read, tile, values);
@@ -76,8 +91,10 @@ pub fn choose_rows(
 
 /// The joined runs of a tile as they are put: those of its kept form, or those that a look found.
 pub fn joined_subrects<'a>(form: Option<&'a TileForm>, room: &'a TileRoom) -> Subrects<'a>
-    ensures kept { IfSome form.entry (λ f. (format : PixelFormat) → subrects_in format result ≡ map (tinted_subrect format) (map subrect_of f.now.runs.items)) }
-    ensures seen { IfNone form.entry ((format : PixelFormat) → subrects_in format result ≡ map subrect_of room.now.subrects.items) }
+    ensures kept { IfSome form.entry (λ f. (format : PixelFormat) → subrects_in format result
+        ≡ map (tinted_subrect format) (map subrect_of f.now.runs.items)) }
+    ensures seen { IfNone form.entry ((format : PixelFormat)
+        → subrects_in format result ≡ map subrect_of room.now.subrects.items) }
 {
     match form {
         Some(form) => form.subrects(),
@@ -102,9 +119,18 @@ pub fn put_tile(
     requires within { IsWithin tile.now source.now.area.w source.now.area.h }
     requires size { IsTileSize tile.now.w tile.now.h }
     requires values { length values.old ≡ tile.now.w * tile.now.h }
-    requires chosen { (form : Runs) × IsChosen form format.now (carried_by said.now) tile.now.w tile.now.h (part_of tile.now (shows format.now source.now)) (subrects_in format.now subrects.now) choice.now }
+    requires chosen { (form : Runs)
+        × IsChosen form format.now (carried_by said.now)
+        tile.now.w tile.now.h (part_of tile.now (shows format.now source.now))
+        (subrects_in format.now subrects.now) choice.now }
     requires room { used + choice.now.len ≤ length out.old }
-    ensures { (form : Runs) → IsChosen form format.now (carried_by said.now) tile.now.w tile.now.h (part_of tile.now (shows format.now source.now)) (subrects_in format.now subrects.now) choice.now → take (used + choice.now.len) out.new ≡ take used out.old ++ (tile_bytes_as form format.now (carried_by said.now) tile.now.w tile.now.h (part_of tile.now (shows format.now source.now))).0 }
+    ensures { (form : Runs)
+        → IsChosen form format.now (carried_by said.now)
+        tile.now.w tile.now.h (part_of tile.now (shows format.now source.now))
+        (subrects_in format.now subrects.now) choice.now
+        → take (used + choice.now.len) out.new
+        ≡ take used out.old ++ (tile_bytes_as form format.now (carried_by said.now)
+        tile.now.w tile.now.h (part_of tile.now (shows format.now source.now))).0 }
 {
     if !choice.is_raw() {
         put_drawn(format, said, choice, subrects, out, used);

@@ -29,7 +29,9 @@ pub struct TileMarks {
 #[inline]
 fn row_changes(row: &[u32]) -> u64
     requires { length row.now ≡ 16 }
-    ensures bits { (x : ℕ) → x < 16 → bit_at result x ≡ bit_of ((x == 0) || not (slice_index row.now (x - 1) == slice_index row.now x)) }
+    ensures bits { (x : ℕ) → x < 16
+        → bit_at result x
+        ≡ bit_of ((x == 0) || not (slice_index row.now (x - 1) == slice_index row.now x)) }
     ensures few { result < 2 ^ 16 }
 {
     let row = u32x16::from_slice(row);
@@ -40,7 +42,8 @@ fn row_changes(row: &[u32]) -> u64
 #[inline]
 fn row_others(row: &[u32], value: u32) -> u64
     requires { length row.now ≡ 16 }
-    ensures bits { (x : ℕ) → x < 16 → bit_at result x ≡ bit_of (not (slice_index row.now x == value)) }
+    ensures bits { (x : ℕ) → x < 16
+        → bit_at result x ≡ bit_of (not (slice_index row.now x == value)) }
     ensures few { result < 2 ^ 16 }
 {
     differences(u32x16::from_slice(row), u32x16::splat(value))
@@ -52,7 +55,9 @@ fn four_changes(values: &[u32], w: usize, tile: &Rect, y: usize) -> u64
     requires lies { LiesAmong values.now w tile.now }
     requires wide { tile.now.w ≡ 16 }
     requires rows { y + 4 ≤ tile.now.h }
-    ensures bits { (r x : ℕ) → r < 4 → x < 16 → bit_at result (16 * r + x) ≡ bit_of (changes_at (part_of tile.now (value_at w values.now)) (y + r) x) }
+    ensures bits { (r x : ℕ) → r < 4 → x < 16
+        → bit_at result (16 * r + x)
+        ≡ bit_of (changes_at (part_of tile.now (value_at w values.now)) (y + r) x) }
     ensures few { result < 2 ^ 64 }
 {
     join_bits(
@@ -69,7 +74,9 @@ fn four_others(values: &[u32], w: usize, tile: &Rect, y: usize, value: u32) -> u
     requires lies { LiesAmong values.now w tile.now }
     requires wide { tile.now.w ≡ 16 }
     requires rows { y + 4 ≤ tile.now.h }
-    ensures bits { (r x : ℕ) → r < 4 → x < 16 → bit_at result (16 * r + x) ≡ bit_of (not (part_of tile.now (value_at w values.now) x (y + r) == value)) }
+    ensures bits { (r x : ℕ) → r < 4 → x < 16
+        → bit_at result (16 * r + x)
+        ≡ bit_of (not (part_of tile.now (value_at w values.now) x (y + r) == value)) }
     ensures few { result < 2 ^ 64 }
 {
     join_bits(
@@ -116,7 +123,9 @@ pub fn find_others(values: &[u32], w: usize, tile: &Rect, value: u32) -> [u64; 4
 /// How many bits four words have.
 #[inline]
 pub fn count_bits(words: &[u64; 4]) -> usize
-    ensures value { result ≡ count_ones (slice_index words.now 0) + count_ones (slice_index words.now 1) + count_ones (slice_index words.now 2) + count_ones (slice_index words.now 3) }
+    ensures value { result ≡ count_ones (slice_index words.now 0)
+        + count_ones (slice_index words.now 1) + count_ones (slice_index words.now 2)
+        + count_ones (slice_index words.now 3) }
     ensures few { result ≤ 256 }
 {
     let low = words[0].count_ones() + words[1].count_ones();
@@ -128,7 +137,9 @@ impl TileMarks {
     /// The marks over a background, by where values change and which positions have others.
     #[inline]
     pub fn over(background: u32, changes: &[u64; 4], others: &[u64; 4]) -> TileMarks
-        ensures marks { (canvas : Canvas) → AreChanges canvas changes.now → AreOthers canvas background others.now → AreTileMarks canvas background result }
+        ensures marks { (canvas : Canvas) → AreChanges canvas changes.now
+            → AreOthers canvas background others.now
+            → AreTileMarks canvas background result }
         ensures background { result.background ≡ background }
     {
         TileMarks {
@@ -150,7 +161,8 @@ impl TileMarks {
 
     /// How many runs begin.
     pub fn count(&self) -> usize
-        ensures value { (canvas : Canvas) → AreTileMarks canvas self.now.background self.now → result ≡ length (runs_over canvas self.now.background 16 16) }
+        ensures value { (canvas : Canvas) → AreTileMarks canvas self.now.background self.now
+            → result ≡ length (runs_over canvas self.now.background 16 16) }
         ensures few { result ≤ 256 }
     {
         count_bits(&self.begins)

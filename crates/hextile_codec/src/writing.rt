@@ -30,7 +30,10 @@ fn put_rows(source: &PixelSource, format: &Format, out: &mut [u8]) -> Option<usi
     requires wide { (0 < source.now.area.w) × (source.now.area.w < 2 ^ 16) }
     requires high { source.now.area.h < 2 ^ 16 }
     requires room { 0 < length out.old }
-    ensures { let bytes = hextile_bytes_as OfRows format.now source.now.area.w source.now.area.h (shows format.now source.now) in MatchOption result (length out.old ≤ length bytes) (λ n. (n ≡ length bytes) × (n < length out.old) × (take n out.new ≡ bytes)) }
+    ensures { let bytes = hextile_bytes_as OfRows format.now
+        source.now.area.w source.now.area.h (shows format.now source.now) in
+        MatchOption result (length out.old ≤ length bytes)
+        (λ n. (n ≡ length bytes) × (n < length out.old) × (take n out.new ≡ bytes)) }
 {
     // A copy, which nothing that is written to `out` can change, so that it is looked at once.
     let format = *format;
@@ -65,11 +68,16 @@ fn put_joined(
     out: &mut [u8],
 ) -> Option<usize>
     requires stands { SourceStands source.now }
-    requires kept { AreKept format.now source.now.area.w source.now.area.h (shows format.now source.now) forms.now }
+    requires kept { AreKept format.now source.now.area.w source.now.area.h
+        (shows format.now source.now) forms.now }
     requires wide { (0 < source.now.area.w) × (source.now.area.w < 2 ^ 16) }
     requires high { source.now.area.h < 2 ^ 16 }
     requires room { 0 < length out.old }
-    ensures { let canvas = shows format.now source.now in let bytes = shorter (hextile_bytes_as Joined format.now source.now.area.w source.now.area.h canvas) (hextile_bytes_as OfRows format.now source.now.area.w source.now.area.h canvas) in MatchOption result (length out.old ≤ length bytes) (λ n. (n ≡ length bytes) × (n < length out.old) × (take n out.new ≡ bytes)) }
+    ensures { let canvas = shows format.now source.now in
+        let bytes = shorter (hextile_bytes_as Joined format.now source.now.area.w source.now.area.h
+        canvas) (hextile_bytes_as OfRows format.now source.now.area.w source.now.area.h canvas) in
+        MatchOption result (length out.old ≤ length bytes)
+        (λ n. (n ≡ length bytes) × (n < length out.old) × (take n out.new ≡ bytes)) }
 {
     let format = *format;
     let (w, h) = (source.area.w, source.area.h);
@@ -120,12 +128,16 @@ fn put_all_chosen(
     out: &mut [u8],
 ) -> Option<usize>
     requires stands { SourceStands source.now }
-    requires chosen { AreChosenBy format.now source.now.area.w source.now.area.h (shows format.now source.now) forms.now chosen.now }
+    requires chosen { AreChosenBy format.now source.now.area.w source.now.area.h
+        (shows format.now source.now) forms.now chosen.now }
     requires all { length chosen.now ≡ tile_count source.now.area.w source.now.area.h }
     requires wide { (0 < source.now.area.w) × (source.now.area.w < 2 ^ 16) }
     requires high { source.now.area.h < 2 ^ 16 }
-    requires room { length (hextile_bytes_as Joined format.now source.now.area.w source.now.area.h (shows format.now source.now)) < length out.old }
-    ensures { let bytes = hextile_bytes_as Joined format.now source.now.area.w source.now.area.h (shows format.now source.now) in (result ≡ Some (length bytes)) × (take (length bytes) out.new ≡ bytes) }
+    requires room { length (hextile_bytes_as Joined format.now source.now.area.w source.now.area.h
+        (shows format.now source.now)) < length out.old }
+    ensures { let bytes = hextile_bytes_as Joined format.now
+        source.now.area.w source.now.area.h (shows format.now source.now) in
+        (result ≡ Some (length bytes)) × (take (length bytes) out.new ≡ bytes) }
 {
     let format = *format;
     let (w, h) = (source.area.w, source.area.h);
@@ -155,11 +167,16 @@ fn put_shorter(
     out: &mut [u8],
 ) -> Option<usize>
     requires stands { SourceStands source.now }
-    requires kept { AreKept format.now source.now.area.w source.now.area.h (shows format.now source.now) forms.now }
+    requires kept { AreKept format.now source.now.area.w source.now.area.h
+        (shows format.now source.now) forms.now }
     requires wide { (0 < source.now.area.w) × (source.now.area.w < 2 ^ 16) }
     requires high { source.now.area.h < 2 ^ 16 }
     requires room { 0 < length out.old }
-    ensures { let canvas = shows format.now source.now in let bytes = shorter (hextile_bytes_as Joined format.now source.now.area.w source.now.area.h canvas) (hextile_bytes_as OfRows format.now source.now.area.w source.now.area.h canvas) in MatchOption result (length out.old ≤ length bytes) (λ n. (n ≡ length bytes) × (n < length out.old) × (take n out.new ≡ bytes)) }
+    ensures { let canvas = shows format.now source.now in
+        let bytes = shorter (hextile_bytes_as Joined format.now source.now.area.w source.now.area.h
+        canvas) (hextile_bytes_as OfRows format.now source.now.area.w source.now.area.h canvas) in
+        MatchOption result (length out.old ≤ length bytes)
+        (λ n. (n ≡ length bytes) × (n < length out.old) × (take n out.new ≡ bytes)) }
 {
     // Room for choices is made only where there are forms to choose by.
     if forms.is_empty() {
@@ -191,9 +208,12 @@ pub fn encode_from(
     out: &mut [u8],
 ) -> Option<usize>
     requires stands { SourceStands source.now }
-    requires kept { AreKept format.now source.now.area.w source.now.area.h (shows format.now source.now) forms.now }
+    requires kept { AreKept format.now source.now.area.w source.now.area.h
+        (shows format.now source.now) forms.now }
     requires room { source.now.area.w * source.now.area.h * pixel_len format.now ≤ length out.old }
-    ensures { IsEncodedAs form Hextile format.now source.now.area.w source.now.area.h (values_of source.now.area.w source.now.area.h (shows format.now source.now)) out.new result }
+    ensures { IsEncodedAs form Hextile format.now source.now.area.w source.now.area.h
+        (values_of source.now.area.w source.now.area.h (shows format.now source.now))
+        out.new result }
 {
     let raw = (source.area.w * source.area.h) as usize * format.bytes();
     if raw == 0 {

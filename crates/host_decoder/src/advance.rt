@@ -30,8 +30,10 @@ pub(crate) fn take_fields(
     requires some { 0 < length bytes.now }
     ensures stays { Stays painter.old painter.new (unwrap_or result.0 (state.Fields fields.new)) }
     ensures within { (0 < result.1) × (result.1 ≤ length bytes.now) }
-    ensures uses { (start : Canvas) (r : Reading ServerMessage) → Stands painter.old.width painter.old.height (state.Fields fields.old) start painter.old r
-        → Uses painter.old painter.new (unwrap_or result.0 (state.Fields fields.new)) start r bytes.now result.1 }
+    ensures uses { (start : Canvas) (r : Reading ServerMessage)
+        → Stands painter.old.width painter.old.height (state.Fields fields.old) start painter.old r
+        → Uses painter.old painter.new (unwrap_or result.0 (state.Fields fields.new))
+        start r bytes.now result.1 }
 {
     let part = fields.part();
     let count = bytes.len().min(fields.left());
@@ -58,8 +60,10 @@ pub(crate) fn take_text(
     requires some { 0 < length bytes.now }
     ensures stays { Stays painter.now painter.now (unwrap_or result.0 (state.Keeping kept.new)) }
     ensures within { (0 < result.1) × (result.1 ≤ length bytes.now) }
-    ensures uses { (start : Canvas) (r : Reading ServerMessage) → Stands painter.now.width painter.now.height (state.Keeping kept.old) start painter.now r
-        → Uses painter.now painter.now (unwrap_or result.0 (state.Keeping kept.new)) start r bytes.now result.1 }
+    ensures uses { (start : Canvas) (r : Reading ServerMessage)
+        → Stands painter.now.width painter.now.height (state.Keeping kept.old) start painter.now r
+        → Uses painter.now painter.now (unwrap_or result.0 (state.Keeping kept.new))
+        start r bytes.now result.1 }
 {
     let count = bytes.len().min(kept.left());
     let (next, _) = bytes.split_at(count);
@@ -82,10 +86,13 @@ pub(crate) fn skip(
     bytes: &[u8],
 ) -> (Option<HostState>, usize)
     requires some { 0 < length bytes.now }
-    ensures stays { (painter : Painting) → Stays painter painter (unwrap_or result.0 (state.Passing what past.new)) }
+    ensures stays { (painter : Painting)
+        → Stays painter painter (unwrap_or result.0 (state.Passing what past.new)) }
     ensures within { (0 < result.1) × (result.1 ≤ length bytes.now) }
-    ensures uses { (painter : Painting) (start : Canvas) (r : Reading ServerMessage) → Stands painter.width painter.height (state.Passing what past.old) start painter r
-        → Uses painter painter (unwrap_or result.0 (state.Passing what past.new)) start r bytes.now result.1 }
+    ensures uses { (painter : Painting) (start : Canvas) (r : Reading ServerMessage)
+        → Stands painter.width painter.height (state.Passing what past.old) start painter r
+        → Uses painter painter (unwrap_or result.0 (state.Passing what past.new))
+        start r bytes.now result.1 }
 {
     let count = bytes.len().min(past.left());
     if count < past.left() {

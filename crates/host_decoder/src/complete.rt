@@ -31,7 +31,8 @@ use std::alloc::Global;
 fn behind_kind(painter: &Painter, kind: u8) -> HostState
     requires size { IsScreenSize painter.now.width painter.now.height }
     ensures suits { Suits painter.now.width painter.now.height result }
-    ensures stands { StandsUnpainted painter.now.width painter.now.height result (fields_of host_format painter.now.width painter.now.height kind) }
+    ensures stands { StandsUnpainted painter.now.width painter.now.height result
+        (fields_of host_format painter.now.width painter.now.height kind) }
 {
     let part = match kind {
         FRAMEBUFFER_UPDATE => HostPart::Count,
@@ -58,7 +59,8 @@ fn behind_area(painter: &Painter, left: u16, b: &[u8]) -> HostState
     requires { length b.now ≡ 8 }
     ensures suits { Suits painter.now.width painter.now.height result }
     ensures stands { (start : Canvas) (sofar : List update.Paint) → Holds start painter.now sofar
-        → Stands painter.now.width painter.now.height result start painter.now (after (form_of painter.now.width painter.now.height sofar (Area left)) b.now) }
+        → Stands painter.now.width painter.now.height result start painter.now
+        (after (form_of painter.now.width painter.now.height sofar (Area left)) b.now) }
 {
     let area = Rect::read(b);
     let (width, height) = painter.size();
@@ -97,7 +99,8 @@ fn behind_length(alloc: Global, painter: &Painter, b: &[u8]) -> HostState
     requires size { IsScreenSize painter.now.width painter.now.height }
     requires count { length b.now ≡ 7 }
     ensures suits { Suits painter.now.width painter.now.height result }
-    ensures stands { StandsUnpainted painter.now.width painter.now.height result (after (text ServerCutText LostText) b.now) }
+    ensures stands { StandsUnpainted painter.now.width painter.now.height result
+        (after (text ServerCutText LostText) b.now) }
 {
     let len = read_text_head(b);
     if len > LONGEST_TEXT {
@@ -115,8 +118,10 @@ pub(crate) fn complete(alloc: Global, painter: &mut Painter, part: HostPart, b: 
     requires count { length b.now ≡ len_of part }
     requires suits { SuitsPart painter.old.width painter.old.height part }
     ensures stays { Stays painter.old painter.new result }
-    ensures goes_on { (start : Canvas) (sofar : List update.Paint) → Holds start painter.old sofar → IsSuited part sofar
-        → GoesOn painter.old painter.new result start (after (form_of painter.old.width painter.old.height sofar part) b.now) }
+    ensures goes_on { (start : Canvas) (sofar : List update.Paint) → Holds start painter.old sofar
+        → IsSuited part sofar
+        → GoesOn painter.old painter.new result start
+        (after (form_of painter.old.width painter.old.height sofar part) b.now) }
 {
     match part {
         HostPart::Kind => behind_kind(painter, b[0]),

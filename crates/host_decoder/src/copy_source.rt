@@ -95,8 +95,12 @@ impl CopySource {
         ensures within { IfOk result (λ fed. fed.0 ≤ length piece.now) }
         ensures some { length self.old < 4 → 0 < length piece.now → IfOk result (λ fed. 0 < fed.0) }
         ensures open_ { IfOk result (λ fed. fed.1 ≡ false → length self.new < 4) }
-        ensures fed { (start : Canvas) (paints : List Paint) (reading : Reading Paint) → IsPaintedOver start paints painter.old → CopyStands painter.old.width painter.old.height area.now self.old reading
-            → Fed (λ next. IsPaintedOver start paints painter.new × CopyStands painter.old.width painter.old.height area.now self.new next) start paints painter.new reading piece.now result }
+        ensures fed { (start : Canvas) (paints : List Paint) (reading : Reading Paint)
+            → IsPaintedOver start paints painter.old
+            → CopyStands painter.old.width painter.old.height area.now self.old reading
+            → Fed (λ next. IsPaintedOver start paints painter.new
+            × CopyStands painter.old.width painter.old.height area.now self.new next)
+            start paints painter.new reading piece.now result }
     {
         let used = self.take_bytes(piece);
         if !self.is_full() {

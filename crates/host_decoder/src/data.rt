@@ -38,7 +38,8 @@ impl Model for Data {
 
     ghost Value = { DataProgress };
 
-    ghost view = { λ r. record { width = r.width; height = r.height; area = r.area; body = r.body } };
+    ghost view = { λ r.
+        record { width = r.width; height = r.height; area = r.area; body = r.body } };
 
     ghost invariant = { λ r. IsWithin r.area r.width r.height × IsBodyFor r.area r.body };
 }
@@ -52,11 +53,15 @@ impl Data {
         requires size { IsScreenSize width height }
         requires within { IsWithin area width height }
         requires data { encoding ≢ desktop_size }
-        ensures stands { IfOk result (λ d. (start : Canvas) (paints : List Paint) (painter : Painting) → IsPaintedOver start paints painter → DataStands d start paints painter (data_of host_format width height area encoding)) }
+        ensures stands { IfOk result (λ d.
+            (start : Canvas) (paints : List Paint) (painter : Painting)
+            → IsPaintedOver start paints painter
+            → DataStands d start paints painter (data_of host_format width height area encoding)) }
         ensures width { IfOk result (λ d. d.width ≡ width) }
         ensures height { IfOk result (λ d. d.height ≡ height) }
         ensures area { IfOk result (λ d. d.area ≡ area) }
-        ensures err { IfErr result (λ fault. (fault ≡ UnknownEncoding) × (data_of host_format width height area encoding ≡ Faulty UnknownEncoding)) }
+        ensures err { IfErr result (λ fault. (fault ≡ UnknownEncoding)
+            × (data_of host_format width height area encoding ≡ Faulty UnknownEncoding)) }
     {
         let body = match Encoding::of_number(encoding) {
             Some(Encoding::Raw) => Body::Raw(RawPixels::of(&area)),
@@ -81,8 +86,11 @@ impl Data {
         ensures area { IsSameArea self.old self.new }
         ensures size { IsAsLarge painter.old painter.new }
         ensures open_ { IsTrue result → IsWanting self.new }
-        ensures fed { IsTrue result → (start : Canvas) (paints : List Paint) (reading : Reading Paint) → DataStands self.old start paints painter.old reading
-            → Fed (DataStands self.new start paints painter.new) start paints painter.new reading piece.now (Ok (length piece.now, false)) }
+        ensures fed { IsTrue result
+            → (start : Canvas) (paints : List Paint) (reading : Reading Paint)
+            → DataStands self.old start paints painter.old reading
+            → Fed (DataStands self.new start paints painter.new) start paints painter.new reading
+            piece.now (Ok (length piece.now, false)) }
         ensures others { IsFalse result → (self.new ≡ self.old) × (painter.new ≡ painter.old) }
     {
         let Body::Raw(raw) = &mut self.body else {
@@ -113,8 +121,10 @@ impl Data {
         ensures within { IfOk result (λ fed. fed.0 ≤ length piece.now) }
         ensures some { IsWanting self.old → 0 < length piece.now → IfOk result (λ fed. 0 < fed.0) }
         ensures open_ { IfOk result (λ fed. fed.1 ≡ false → IsWanting self.new) }
-        ensures fed { (start : Canvas) (paints : List Paint) (reading : Reading Paint) → DataStands self.old start paints painter.old reading
-            → Fed (DataStands self.new start paints painter.new) start paints painter.new reading piece.now result }
+        ensures fed { (start : Canvas) (paints : List Paint) (reading : Reading Paint)
+            → DataStands self.old start paints painter.old reading
+            → Fed (DataStands self.new start paints painter.new) start paints painter.new
+            reading piece.now result }
     {
         painter.draw_on(self.area);
         match &mut self.body {

@@ -48,7 +48,8 @@ impl HostDecoder {
     pub fn new(alloc: Global, width: u64, height: u64) -> Self
         requires { IsScreenSize width height }
         ensures value { result ≡ record { width = width; height = height; state = start } }
-        ensures begins { (screen : Canvas) (painter : Painting) → Holds screen painter [] → Decodes result painter screen (host_message width height) }
+        ensures begins { (screen : Canvas) (painter : Painting) → Holds screen painter []
+            → Decodes result painter screen (host_message width height) }
     {
         HostDecoder {
             alloc,
@@ -74,11 +75,18 @@ impl HostDecoder {
     /// then on.
     pub fn feed(&mut self, painter: &mut Painter, piece: &[u8]) -> Result<usize, Fault>
         requires { IsFor self.old painter.old }
-        ensures size { (self.new.width ≡ self.old.width) × (self.new.height ≡ self.old.height) × IsFor self.new painter.new }
+        ensures size { (self.new.width ≡ self.old.width) × (self.new.height ≡ self.old.height)
+            × IsFor self.new painter.new }
         ensures within { IfOk result (λ used. used ≤ length piece.now) }
-        ensures feeds { (screen : Canvas) (r : Reading ServerMessage) → Decodes self.old painter.old screen r → Feeds self.new painter.new screen r piece.now result }
-        ensures refused { is_refused self.old.state ≡ true → (result ≡ Err Memory) × (self.new ≡ self.old) × (painter.new ≡ painter.old) }
-        ensures faulty { (screen : Canvas) (fault : Fault) → Decodes self.old painter.old screen (Faulty fault) → (result ≡ Err fault) × Decodes self.new painter.new screen (Faulty fault) × (painter.new ≡ painter.old) }
+        ensures feeds { (screen : Canvas) (r : Reading ServerMessage)
+            → Decodes self.old painter.old screen r
+            → Feeds self.new painter.new screen r piece.now result }
+        ensures refused { is_refused self.old.state ≡ true
+            → (result ≡ Err Memory) × (self.new ≡ self.old) × (painter.new ≡ painter.old) }
+        ensures faulty { (screen : Canvas) (fault : Fault)
+            → Decodes self.old painter.old screen (Faulty fault)
+            → (result ≡ Err fault) × Decodes self.new painter.new screen (Faulty fault)
+            × (painter.new ≡ painter.old) }
     {
         self.state.feed(self.alloc, painter, piece)
     }
@@ -86,12 +94,16 @@ impl HostDecoder {
     /// Takes the event of the message that is whole, if there is one. The next bytes begin another.
     pub fn whole(&mut self) -> Option<HostEvent>
         ensures size { (self.new.width ≡ self.old.width) × (self.new.height ≡ self.old.height) }
-        ensures given { (painter : Painting) (screen : Canvas) (r : Reading ServerMessage) → Decodes self.old painter screen r
+        ensures given { (painter : Painting) (screen : Canvas) (r : Reading ServerMessage)
+            → Decodes self.old painter screen r
             → BringsWhole self.old.width self.old.height screen result (whole_of r)
-            × Decodes self.new painter (screen_behind self.old.width self.old.height screen (whole_of r)) (renewed (host_message self.old.width self.old.height) r) }
+            × Decodes self.new painter
+            (screen_behind self.old.width self.old.height screen (whole_of r))
+            (renewed (host_message self.old.width self.old.height) r) }
         ensures refused { is_refused self.old.state ≡ true → result ≡ None }
         ensures none { IfNone result (self.new ≡ self.old) }
-        ensures some { IfSome result (λ event. (waiting self.old.state ≡ brought_by event) × (self.new.state ≡ start)) }
+        ensures some { IfSome result (λ event.
+            (waiting self.old.state ≡ brought_by event) × (self.new.state ≡ start)) }
     {
         match mem::replace(&mut self.state, HostState::start()) {
             HostState::Whole(event) => Some(event),
@@ -106,7 +118,8 @@ impl HostDecoder {
     /// and so is a whole message whose event wasn't taken.
     pub fn next_host(&mut self)
         ensures value { self.new ≡ record self.old { state = start } }
-        ensures begins { (screen : Canvas) (painter : Painting) → Holds screen painter [] → Decodes self.new painter screen (host_message self.old.width self.old.height) }
+        ensures begins { (screen : Canvas) (painter : Painting) → Holds screen painter []
+            → Decodes self.new painter screen (host_message self.old.width self.old.height) }
     {
         self.state = HostState::start();
     }

@@ -27,9 +27,11 @@ impl HostScreen {
     /// (`Memory`).
     pub fn new(alloc: Global, width: u64, height: u64) -> Result<Self, Fault>
         requires { IsScreenSize width height }
-        ensures size { IfOk result (λ screen. (screen.decoder.width ≡ width) × (screen.decoder.height ≡ height)) }
+        ensures size { IfOk result (λ screen.
+            (screen.decoder.width ≡ width) × (screen.decoder.height ≡ height)) }
         ensures pair { IfOk result (λ screen. IsFor screen.decoder screen.painter) }
-        ensures begins { IfOk result (λ screen. Decodes screen.decoder screen.painter opening (host_message width height)) }
+        ensures begins { IfOk result (λ screen.
+            Decodes screen.decoder screen.painter opening (host_message width height)) }
         ensures err { IfErr result (λ fault. fault ≡ Memory) }
     {
         let painter = Painter::new(alloc, width, height)?;
@@ -47,11 +49,14 @@ impl HostScreen {
     ) -> Result<(Self, Patch), Fault>
         requires screen { IsScreenSize width height }
         requires fits { (size.width ≤ width) × (size.height ≤ height) }
-        ensures size { IfOk result (λ made. (made.0.decoder.width ≡ width) × (made.0.decoder.height ≡ height)) }
+        ensures size { IfOk result (λ made.
+            (made.0.decoder.width ≡ width) × (made.0.decoder.height ≡ height)) }
         ensures pair { IfOk result (λ made. IsFor made.0.decoder made.0.painter) }
-        ensures begins { IfOk result (λ made. Decodes made.0.decoder made.0.painter opening (host_message width height)) }
+        ensures begins { IfOk result (λ made.
+            Decodes made.0.decoder made.0.painter opening (host_message width height)) }
         ensures sized { IfOk result (λ made. (made.1.width ≡ width) × (made.1.height ≡ height)) }
-        ensures same { IfOk result (λ made. (start : Canvas) → AreSameUpdates width height start (switch_to size ∷ []) (made.1.update ∷ [])) }
+        ensures same { IfOk result (λ made. (start : Canvas)
+            → AreSameUpdates width height start (switch_to size ∷ []) (made.1.update ∷ [])) }
         ensures err { IfErr result (λ fault. fault ≡ Memory) }
     {
         let (painter, patch) = Painter::black(alloc, width, height, size)?;

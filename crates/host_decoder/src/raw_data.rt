@@ -33,9 +33,11 @@ impl Model for RawPixels {
 
     ghost Value = { RawProgress };
 
-    ghost view = { λ r. record { width = r.width; count = r.count; done = r.done; begun = take r.filled r.begun } };
+    ghost view = { λ r.
+        record { width = r.width; count = r.count; done = r.done; begun = take r.filled r.begun } };
 
-    ghost invariant = { λ r. (length r.begun ≡ 4) × (r.filled < 4) × (r.filled + 4 * r.done ≤ 4 * r.count) × (r.count < 2 ^ 32) };
+    ghost invariant = { λ r. (length r.begun ≡ 4) × (r.filled < 4)
+        × (r.filled + 4 * r.done ≤ 4 * r.count) × (r.count < 2 ^ 32) };
 }
 
 /// Puts pixels on the rectangle that is drawn on, after those that have come, row by row.
@@ -44,7 +46,10 @@ fn put_pixels(painter: &mut Painter, width: usize, done: usize, pixels: &[[u8; P
     requires within { done + length pixels.now ≤ painter.old.area.w * painter.old.area.h }
     requires small { painter.old.area.w * painter.old.area.h < 2 ^ 32 }
     ensures around { IsSameAround painter.old painter.new }
-    ensures shows { (values : List ℕ) → length values ≡ done → ShowsFirst painter.old.area (drawn painter.old) values → ShowsFirst painter.old.area (drawn painter.new) (values ++ map (from_le_bytes w32) pixels.now) }
+    ensures shows { (values : List ℕ) → length values ≡ done
+        → ShowsFirst painter.old.area (drawn painter.old) values
+        → ShowsFirst painter.old.area (drawn painter.new)
+        (values ++ map (from_le_bytes w32) pixels.now) }
 {
     let mut at = done;
     let mut left = pixels;
@@ -70,7 +75,8 @@ impl RawPixels {
     fn first_len(&self, bytes: &[u8]) -> usize
         ensures most { result ≤ length bytes.now }
         ensures pixel { length self.now.begun + result ≤ 4 }
-        ensures ends { result < length bytes.now → (length self.now.begun + result ≡ 0) ⊎ (length self.now.begun + result ≡ 4) }
+        ensures ends { result < length bytes.now
+            → (length self.now.begun + result ≡ 0) ⊎ (length self.now.begun + result ≡ 4) }
     {
         if self.filled == 0 {
             0
@@ -83,11 +89,15 @@ impl RawPixels {
     fn take_bytes(&mut self, painter: &mut Painter, bytes: &[u8])
         requires fits { IsRawFor painter.old.area self.old }
         requires pixel { length self.old.begun + length bytes.now ≤ 4 }
-        requires missing { length self.old.begun + length bytes.now + 4 * self.old.done ≤ 4 * self.old.count }
+        requires missing { length self.old.begun + length bytes.now + 4 * self.old.done
+            ≤ 4 * self.old.count }
         ensures fits { IsRawFor painter.old.area self.new }
         ensures around { IsSameAround painter.old painter.new }
-        ensures takes { (reading : Reading Paint) → RawStands painter.old.area self.old (drawn painter.old) reading → RawTakes painter.old.area self.new (drawn painter.new) reading bytes.now }
-        ensures more { length self.new.begun + 4 * self.new.done ≡ length self.old.begun + 4 * self.old.done + length bytes.now }
+        ensures takes { (reading : Reading Paint)
+            → RawStands painter.old.area self.old (drawn painter.old) reading
+            → RawTakes painter.old.area self.new (drawn painter.new) reading bytes.now }
+        ensures more { length self.new.begun + 4 * self.new.done
+            ≡ length self.old.begun + 4 * self.old.done + length bytes.now }
         ensures begun { length self.new.begun < 4 }
     {
         let end = self.filled + bytes.len();
@@ -110,7 +120,10 @@ impl RawPixels {
         requires missing { length pixels.now + self.old.done ≤ self.old.count }
         ensures same { self.new ≡ record self.old { done = self.old.done + length pixels.now } }
         ensures around { IsSameAround painter.old painter.new }
-        ensures shows { (values : List ℕ) → length values ≡ self.old.done → ShowsFirst painter.old.area (drawn painter.old) values → ShowsFirst painter.old.area (drawn painter.new) (values ++ map (from_le_bytes w32) pixels.now) }
+        ensures shows { (values : List ℕ) → length values ≡ self.old.done
+            → ShowsFirst painter.old.area (drawn painter.old) values
+            → ShowsFirst painter.old.area (drawn painter.new)
+            (values ++ map (from_le_bytes w32) pixels.now) }
     {
         put_pixels(painter, self.width, self.done, pixels);
         self.done += pixels.len();
@@ -119,11 +132,15 @@ impl RawPixels {
     /// Takes all of these bytes. They have to end no later than the rectangle.
     pub(crate) fn take_all(&mut self, painter: &mut Painter, bytes: &[u8])
         requires fits { IsRawFor painter.old.area self.old }
-        requires missing { length self.old.begun + length bytes.now + 4 * self.old.done ≤ 4 * self.old.count }
+        requires missing { length self.old.begun + length bytes.now + 4 * self.old.done
+            ≤ 4 * self.old.count }
         ensures fits { IsRawFor painter.old.area self.new }
         ensures around { IsSameAround painter.old painter.new }
-        ensures takes { (reading : Reading Paint) → RawStands painter.old.area self.old (drawn painter.old) reading → RawTakes painter.old.area self.new (drawn painter.new) reading bytes.now }
-        ensures more { length self.new.begun + 4 * self.new.done ≡ length self.old.begun + 4 * self.old.done + length bytes.now }
+        ensures takes { (reading : Reading Paint)
+            → RawStands painter.old.area self.old (drawn painter.old) reading
+            → RawTakes painter.old.area self.new (drawn painter.new) reading bytes.now }
+        ensures more { length self.new.begun + 4 * self.new.done
+            ≡ length self.old.begun + 4 * self.old.done + length bytes.now }
         ensures begun { length self.new.begun < 4 }
     {
         let (first, rest) = bytes.split_at(self.first_len(bytes));

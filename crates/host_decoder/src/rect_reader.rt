@@ -39,7 +39,9 @@ pub(crate) trait RectReader {
         requires wide { area.now.w ≤ 4096 }
         requires high { area.now.h ≤ 4096 }
         ensures fits { IsFor area.now result }
-        ensures stands { (canvas : Canvas) → Stands area.now result canvas (putting area.now (pixels encoding host_format area.now.w area.now.h)) };
+        ensures stands { (canvas : Canvas)
+            → Stands area.now result canvas
+            (putting area.now (pixels encoding host_format area.now.w area.now.h)) };
 
     /// Takes the next piece, up to the end of the rectangle, draws what it says, and answers how many bytes it used, or
     /// the fault, which is final.
@@ -50,12 +52,19 @@ pub(crate) trait RectReader {
         ensures within { IfOk result (λ used. used ≤ length piece.now) }
         ensures some { IsWanting self.old → 0 < length piece.now → IfOk result (λ used. 0 < used) }
         ensures fine { OnOk result (IsFine self.new) }
-        ensures fed { (reading : Reading Paint) → Stands painter.old.area self.old (drawn painter.old) reading → Stands painter.old.area self.new (drawn painter.new) (after reading piece.now) × FedAs reading piece.now result };
+        ensures fed { (reading : Reading Paint)
+            → Stands painter.old.area self.old (drawn painter.old) reading
+            → Stands painter.old.area self.new (drawn painter.new) (after reading piece.now)
+            × FedAs reading piece.now result };
 
     /// Whether the rectangle is read to its end.
     fn is_whole(&self) -> bool
-        ensures whole { (area : rect.Rect) (canvas : Canvas) (reading : Reading Paint) → Stands area self.now canvas reading → result ≡ is_some (whole_of reading) }
-        ensures drawn { (area : rect.Rect) (canvas : Canvas) (painted : Paint) → Stands area self.now canvas (Done painted) → IsDrawnAs area canvas painted }
+        ensures whole { (area : rect.Rect) (canvas : Canvas) (reading : Reading Paint)
+            → Stands area self.now canvas reading
+            → result ≡ is_some (whole_of reading) }
+        ensures drawn { (area : rect.Rect) (canvas : Canvas) (painted : Paint)
+            → Stands area self.now canvas (Done painted)
+            → IsDrawnAs area canvas painted }
         ensures open_ { IsFalse result → IsFine self.now → IsWanting self.now };
 }
 
@@ -72,8 +81,12 @@ pub(crate) fn paint_pixels<R: RectReader>(
     ensures within { IfOk result (λ fed. fed.0 ≤ length piece.now) }
     ensures some { R.IsWanting reader.old → 0 < length piece.now → IfOk result (λ fed. 0 < fed.0) }
     ensures open_ { IfOk result (λ fed. fed.1 ≡ false → R.IsWanting reader.new) }
-    ensures fed { (start : Canvas) (paints : List Paint) (reading : Reading Paint) → IsPaintedAround start paints painter.old.area painter.old → R.Stands painter.old.area reader.old (drawn painter.old) reading
-        → Fed (λ next. IsPaintedAround start paints painter.old.area painter.new × R.Stands painter.old.area reader.new (part_of painter.old.area (worked painter.new)) next) start paints painter.new reading piece.now result }
+    ensures fed { (start : Canvas) (paints : List Paint) (reading : Reading Paint)
+        → IsPaintedAround start paints painter.old.area painter.old
+        → R.Stands painter.old.area reader.old (drawn painter.old) reading
+        → Fed (λ next. IsPaintedAround start paints painter.old.area painter.new
+        × R.Stands painter.old.area reader.new (part_of painter.old.area (worked painter.new)) next)
+        start paints painter.new reading piece.now result }
 {
     let used = reader.feed(painter, piece)?;
     let whole = reader.is_whole();

@@ -58,7 +58,8 @@ impl HostState {
     /// The state in which all bytes of a text that is kept have come.
     pub(crate) fn text(painter: &Painter, text: Text) -> HostState
         requires { IsScreenSize painter.now.width painter.now.height }
-        ensures stands { StandsUnpainted painter.now.width painter.now.height result (keeping text 0) }
+        ensures stands { StandsUnpainted painter.now.width painter.now.height
+            result (keeping text 0) }
         ensures suits { (w h : ℕ) → Suits w h result }
     {
         let (width, height) = painter.size();
@@ -83,7 +84,9 @@ impl HostState {
     fn advance_within(&mut self, painter: &mut Painter, bytes: &[u8]) -> bool
         requires suits { Suits painter.old.width painter.old.height self.old }
         ensures stays { Stays painter.old painter.new self.new }
-        ensures uses { IsTrue result → (start : Canvas) (r : Reading ServerMessage) → Stands painter.old.width painter.old.height self.old start painter.old r → Uses painter.old painter.new self.new start r bytes.now (length bytes.now) }
+        ensures uses { IsTrue result → (start : Canvas) (r : Reading ServerMessage)
+            → Stands painter.old.width painter.old.height self.old start painter.old r
+            → Uses painter.old painter.new self.new start r bytes.now (length bytes.now) }
         ensures others { IsFalse result → (self.new ≡ self.old) × (painter.new ≡ painter.old) }
     {
         match self {
@@ -106,7 +109,10 @@ impl HostState {
         requires some { 0 < length bytes.now }
         ensures stays { Stays painter.old painter.new (unwrap_or result.0 self.new) }
         ensures within { (0 < result.1) × (result.1 ≤ length bytes.now) }
-        ensures uses { (start : Canvas) (r : Reading ServerMessage) → Stands painter.old.width painter.old.height self.old start painter.old r → Uses painter.old painter.new (unwrap_or result.0 self.new) start r bytes.now result.1 }
+        ensures uses { (start : Canvas) (r : Reading ServerMessage)
+            → Stands painter.old.width painter.old.height self.old start painter.old r
+            → Uses painter.old painter.new (unwrap_or result.0 self.new)
+            start r bytes.now result.1 }
     {
         match self {
             HostState::Fields(fields) => take_fields(alloc, painter, fields, bytes),
@@ -125,7 +131,9 @@ impl HostState {
         requires some { 0 < length bytes.now }
         ensures stays { Stays painter.old painter.new self.new }
         ensures within { (0 < result) × (result ≤ length bytes.now) }
-        ensures uses { (start : Canvas) (r : Reading ServerMessage) → Stands painter.old.width painter.old.height self.old start painter.old r → Uses painter.old painter.new self.new start r bytes.now result }
+        ensures uses { (start : Canvas) (r : Reading ServerMessage)
+            → Stands painter.old.width painter.old.height self.old start painter.old r
+            → Uses painter.old painter.new self.new start r bytes.now result }
     {
         // Most pieces of a large update are such bytes. `step` answers with room for a whole state, and filling that
         // room for each piece costs noticeable time where pieces are small.
@@ -160,9 +168,13 @@ impl HostState {
         requires suits { Suits painter.old.width painter.old.height self.old }
         ensures stays { Stays painter.old painter.new self.new }
         ensures within { IfOk result (λ used. used ≤ length piece.now) }
-        ensures feeds { (screen : Canvas) (r : Reading ServerMessage) → Stands painter.old.width painter.old.height self.old screen painter.old r
-            → Feeds (record { width = painter.old.width; height = painter.old.height; state = self.new }) painter.new screen r piece.now result }
-        ensures closed { is_open self.old ≡ false → (result ≡ answered self.old 0) × (self.new ≡ self.old) × (painter.new ≡ painter.old) }
+        ensures feeds { (screen : Canvas) (r : Reading ServerMessage)
+            → Stands painter.old.width painter.old.height self.old screen painter.old r
+            → Feeds
+            (record { width = painter.old.width; height = painter.old.height; state = self.new })
+            painter.new screen r piece.now result }
+        ensures closed { is_open self.old ≡ false
+            → (result ≡ answered self.old 0) × (self.new ≡ self.old) × (painter.new ≡ painter.old) }
     {
         let mut used = 0;
         while used < piece.len() && self.is_open() {

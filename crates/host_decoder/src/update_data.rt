@@ -24,7 +24,9 @@ use rfb_wire::{DESKTOP_SIZE, Fields};
 /// end of the update, with its patch.
 pub(crate) fn next_rectangle(painter: &mut Painter, left: u16) -> HostState
     ensures stays { Stays painter.old painter.new result }
-    ensures goes_on { (start : Canvas) (sofar : List update.Paint) → Holds start painter.old sofar → GoesOn painter.old painter.new result start (rectangles painter.old.width painter.old.height sofar left) }
+    ensures goes_on { (start : Canvas) (sofar : List update.Paint) → Holds start painter.old sofar
+        → GoesOn painter.old painter.new result start
+        (rectangles painter.old.width painter.old.height sofar left) }
 {
     if left > 0 {
         return HostState::Fields(Fields::of(HostPart::Area(left - 1)));
@@ -45,11 +47,14 @@ pub(crate) fn read_data(
 ) -> (Option<HostState>, usize)
     requires width { reader.old.width ≡ painter.old.width }
     requires height { reader.old.height ≡ painter.old.height }
-    ensures stays { Stays painter.old painter.new (unwrap_or result.0 (state.Pixels left reader.new)) }
+    ensures stays { Stays painter.old painter.new
+        (unwrap_or result.0 (state.Pixels left reader.new)) }
     ensures within { result.1 ≤ length bytes.now }
     ensures some { IsWanting reader.old → 0 < length bytes.now → 0 < result.1 }
-    ensures uses { (start : Canvas) (sofar : List update.Paint) (reading : Reading update.Paint) → DataStands reader.old start (map in_colours sofar) painter.old reading
-        → Uses painter.old painter.new (unwrap_or result.0 (state.Pixels left reader.new)) start (with_others painter.old.width painter.old.height sofar left reading) bytes.now result.1 }
+    ensures uses { (start : Canvas) (sofar : List update.Paint) (reading : Reading update.Paint)
+        → DataStands reader.old start (map in_colours sofar) painter.old reading
+        → Uses painter.old painter.new (unwrap_or result.0 (state.Pixels left reader.new)) start
+        (with_others painter.old.width painter.old.height sofar left reading) bytes.now result.1 }
 {
     let (used, whole) = match reader.feed(painter, bytes) {
         Ok(fed) => fed,
@@ -67,7 +72,9 @@ pub(crate) fn begin_data(painter: &mut Painter, left: u16, area: Rect, encoding:
     requires within { IsWithin area painter.old.width painter.old.height }
     ensures stays { Stays painter.old painter.new result }
     ensures goes_on { (start : Canvas) (sofar : List update.Paint) → Holds start painter.old sofar
-        → GoesOn painter.old painter.new result start (with_others painter.old.width painter.old.height sofar left (data_of host_format painter.old.width painter.old.height area encoding)) }
+        → GoesOn painter.old painter.new result start
+        (with_others painter.old.width painter.old.height sofar left
+        (data_of host_format painter.old.width painter.old.height area encoding)) }
 {
     if encoding == DESKTOP_SIZE {
         painter.resize(Size {

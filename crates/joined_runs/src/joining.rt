@@ -32,7 +32,8 @@ fn row_of<'a>(values: &'a [u32], w: usize, area: &Rect, y: usize) -> &'a [u32]
     requires lies { LiesAmong values.now w area.now }
     requires row { y < area.now.h }
     ensures len { length result.now ≡ area.now.w }
-    ensures values { (x : ℕ) → x < area.now.w → slice_index result.now x ≡ part_of area.now (value_at w values.now) x y }
+    ensures values { (x : ℕ) → x < area.now.w
+        → slice_index result.now x ≡ part_of area.now (value_at w values.now) x y }
 {
     let start = area.y as usize * w + area.x as usize + y * w;
     &values[start..start + area.w as usize]
@@ -42,7 +43,8 @@ fn row_of<'a>(values: &'a [u32], w: usize, area: &Rect, y: usize) -> &'a [u32]
 #[inline]
 fn begins(row: &[u32], x: usize, value: u32) -> bool
     requires { x < length row.now }
-    ensures { result ≡ (slice_index row.now x == value) && ((x == 0) || not (slice_index row.now (x - 1) == value)) }
+    ensures { result ≡ (slice_index row.now x == value)
+        && ((x == 0) || not (slice_index row.now (x - 1) == value)) }
 {
     row[x] == value && (x == 0 || row[x - 1] != value)
 }
@@ -51,7 +53,8 @@ fn begins(row: &[u32], x: usize, value: u32) -> bool
 #[inline]
 fn has_run(row: &[u32], run: &RowRun) -> bool
     requires { run.now.x < length row.now }
-    ensures { (y : ℕ) → result ≡ stands_in (row_shows row.now) (length row.now) (subrect_of run.now) y }
+    ensures { (y : ℕ)
+        → result ≡ stands_in (row_shows row.now) (length row.now) (subrect_of run.now) y }
 {
     begins(row, run.x, run.value) && run_len(&row[run.x..], run.value) == run.len
 }
@@ -61,7 +64,8 @@ fn has_run(row: &[u32], run: &RowRun) -> bool
 #[inline]
 fn is_below(values: &[u32], w: usize, area: &Rect, run: &RowRun) -> bool
     requires { HasRun values.now w area.now run.now }
-    ensures { result ≡ is_below (part_of area.now (value_at w values.now)) area.now.w (subrect_of run.now) }
+    ensures { result ≡ is_below (part_of area.now (value_at w values.now))
+        area.now.w (subrect_of run.now) }
 {
     run.y > 0 && has_run(row_of(values, w, area, run.y - 1), run)
 }
@@ -70,7 +74,8 @@ fn is_below(values: &[u32], w: usize, area: &Rect, run: &RowRun) -> bool
 #[inline]
 fn rows_below(values: &[u32], w: usize, area: &Rect, run: &RowRun) -> usize
     requires { HasRun values.now w area.now run.now }
-    ensures value { result ≡ rows_below (part_of area.now (value_at w values.now)) area.now.w area.now.h (subrect_of run.now) }
+    ensures value { result ≡ rows_below (part_of area.now (value_at w values.now))
+        area.now.w area.now.h (subrect_of run.now) }
     ensures within { run.now.y + 1 + result ≤ area.now.h }
 {
     let mut y = run.y + 1;
@@ -86,7 +91,9 @@ fn rows_below(values: &[u32], w: usize, area: &Rect, run: &RowRun) -> usize
 #[inline]
 pub fn height(runs: Runs, values: &[u32], w: usize, area: &Rect, run: &RowRun) -> Option<usize>
     requires { HasRun values.now w area.now run.now }
-    ensures value { let one = written runs (part_of area.now (value_at w values.now)) area.now.w area.now.h (subrect_of run.now ∷ []) in MatchOption result (one ≡ []) (λ high. one ≡ subrect_as_high run.now high ∷ []) }
+    ensures value { let one = written runs (part_of area.now (value_at w values.now))
+        area.now.w area.now.h (subrect_of run.now ∷ []) in
+        MatchOption result (one ≡ []) (λ high. one ≡ subrect_as_high run.now high ∷ []) }
     ensures some { IfSome result (λ high. 0 < high) }
     ensures within { IfSome result (λ high. run.now.y + high ≤ area.now.h) }
 {

@@ -23,12 +23,18 @@ pub fn forms_differ()
 
 /// The joined form never has more bytes than the form of the runs of rows.
 pub fn joined_is_shorter()
-    ensures { (encoding : Encoding) (format : PixelFormat) (w h : ℕ) (values : List ℕ) → length (form_of Joined encoding format w h values) ≤ length (form encoding format w h values) }
+    ensures { (encoding : Encoding) (format : PixelFormat) (w h : ℕ) (values : List ℕ)
+        → length (form_of Joined encoding format w h values)
+        ≤ length (form encoding format w h values) }
 {}
 
 /// In a format that keeps colours apart, either form of a tile's pixel values is the form of its colours with each
 /// colour replaced by its pixel value: the background, and each subrectangle, in the same place.
 pub fn form_is_tinted()
-    ensures background { (runs : Runs) (format : PixelFormat) (w h : ℕ) (colours shown : Canvas) → ShowsApart format w h colours shown → background_of runs w h shown ≡ tint format (background_of runs w h colours) }
-    ensures subrects { (runs : Runs) (format : PixelFormat) (w h : ℕ) (colours shown : Canvas) → ShowsApart format w h colours shown → subrects_of runs w h shown ≡ map (tinted_subrect format) (subrects_of runs w h colours) }
+    ensures background { (runs : Runs) (format : PixelFormat) (w h : ℕ) (colours shown : Canvas)
+        → ShowsApart format w h colours shown
+        → background_of runs w h shown ≡ tint format (background_of runs w h colours) }
+    ensures subrects { (runs : Runs) (format : PixelFormat) (w h : ℕ) (colours shown : Canvas)
+        → ShowsApart format w h colours shown
+        → subrects_of runs w h shown ≡ map (tinted_subrect format) (subrects_of runs w h colours) }
 {}

@@ -27,8 +27,10 @@ pub fn give_all<L: Link, F: StopFlag, R: Wait>(
     stop: &F,
     bytes: &[u8],
 ) -> Result<(), Halt>
-    ensures ok { OnOk result (L.state link.new ≡ record (L.state link.old) { given = (L.state link.old).given ++ bytes.now }) }
-    ensures err { IfErr result (λ halt. HaltsAt (F.was_set stop.now) halt (L.state link.old) (L.state link.new) bytes.now) }
+    ensures ok { OnOk result (L.state link.new
+        ≡ record (L.state link.old) { given = (L.state link.old).given ++ bytes.now }) }
+    ensures err { IfErr result (λ halt.
+        HaltsAt (F.was_set stop.now) halt (L.state link.old) (L.state link.new) bytes.now) }
 {
     let mut left = bytes;
     for _ in rt.forever() {

@@ -14,7 +14,9 @@ use rfb_wire::HostHello;
 /// Gives as many of these bytes as the link takes now, and answers how many.
 pub(crate) fn give_some<L: Link>(link: &mut L, bytes: &[u8]) -> Result<usize, Fault>
     requires { 0 < length bytes.now }
-    ensures given { IfOk result (λ count. (count ≤ length bytes.now) × (L.state link.new ≡ record (L.state link.old) { given = (L.state link.old).given ++ take count bytes.now })) }
+    ensures given { IfOk result (λ count. (count ≤ length bytes.now)
+        × (L.state link.new
+        ≡ record (L.state link.old) { given = (L.state link.old).given ++ take count bytes.now })) }
     ensures ungiven { OnErr result ((L.state link.new).given ≡ (L.state link.old).given) }
     ensures taken { (L.state link.new).taken ≡ (L.state link.old).taken }
     ensures err { IfErr result (λ fault. LinkFails fault (L.state link.old) (L.state link.new)) }
@@ -29,7 +31,8 @@ pub(crate) fn give_some<L: Link>(link: &mut L, bytes: &[u8]) -> Result<usize, Fa
 
 /// Takes the next byte, if one has come. A handshake is short, and what comes after it is left to others.
 fn take_byte<L: Link>(link: &mut L) -> Result<Option<u8>, Fault>
-    ensures taken { IfOk result (λ byte. L.state link.new ≡ record (L.state link.old) { taken = (L.state link.old).taken ++ option_to_list byte }) }
+    ensures taken { IfOk result (λ byte. L.state link.new
+        ≡ record (L.state link.old) { taken = (L.state link.old).taken ++ option_to_list byte }) }
     ensures untaken { OnErr result ((L.state link.new).taken ≡ (L.state link.old).taken) }
     ensures given { (L.state link.new).given ≡ (L.state link.old).given }
     ensures err { IfErr result (λ fault. LinkFails fault (L.state link.old) (L.state link.new)) }
@@ -47,8 +50,11 @@ fn take_byte<L: Link>(link: &mut L) -> Result<Option<u8>, Fault>
 pub(crate) fn say<L: Link>(link: &mut L, hello: &mut HostHello) -> Result<(), Fault>
     requires { 0 < length (to_send hello.old) }
     ensures password { hello.new.password ≡ hello.old.password }
-    ensures so_far { (start : LinkState) → HearsSoFar start (L.state link.old) hello.old → HearsSoFar start (L.state link.new) hello.new }
-    ensures keeps { (start : LinkState) → IsHearing start (L.state link.old) hello.old → MatchResult result (λ _. IsHearing start (L.state link.new) hello.new) (λ fault. FailsAs hello.old.password fault start (L.state link.new)) }
+    ensures so_far { (start : LinkState) → HearsSoFar start (L.state link.old) hello.old
+        → HearsSoFar start (L.state link.new) hello.new }
+    ensures keeps { (start : LinkState) → IsHearing start (L.state link.old) hello.old
+        → MatchResult result (λ _. IsHearing start (L.state link.new) hello.new)
+        (λ fault. FailsAs hello.old.password fault start (L.state link.new)) }
 {
     let count = give_some(link, hello.out())?;
     hello.sent(count);
@@ -59,8 +65,11 @@ pub(crate) fn say<L: Link>(link: &mut L, hello: &mut HostHello) -> Result<(), Fa
 pub(crate) fn hear<L: Link>(link: &mut L, hello: &mut HostHello) -> Result<(), Fault>
     requires { wants_more (ahead hello.old) ≡ true }
     ensures password { hello.new.password ≡ hello.old.password }
-    ensures so_far { (start : LinkState) → HearsSoFar start (L.state link.old) hello.old → HearsSoFar start (L.state link.new) hello.new }
-    ensures keeps { (start : LinkState) → IsHearing start (L.state link.old) hello.old → MatchResult result (λ _. IsHearing start (L.state link.new) hello.new) (λ fault. FailsAs hello.old.password fault start (L.state link.new)) }
+    ensures so_far { (start : LinkState) → HearsSoFar start (L.state link.old) hello.old
+        → HearsSoFar start (L.state link.new) hello.new }
+    ensures keeps { (start : LinkState) → IsHearing start (L.state link.old) hello.old
+        → MatchResult result (λ _. IsHearing start (L.state link.new) hello.new)
+        (λ fault. FailsAs hello.old.password fault start (L.state link.new)) }
 {
     let taken = take_byte(link)?;
     let Some(byte) = taken else {

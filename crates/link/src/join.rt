@@ -20,8 +20,10 @@ pub trait JoinsOn<L: Link> {
     /// Joins on to the end.
     fn join_on(&self, joining: &mut Joining<'_, L>) -> Result<Joined, Fault>
         requires { (joining.old.is_heard ≡ false) × IsUnheard joining.old.hello }
-        ensures joined { IfOk result (λ joined. Joins joining.old.hello.password (L.state joining.old.link.now) (L.state joining.new.link.now) joined) }
-        ensures err { IfErr result (λ fault. FailsAs joining.old.hello.password fault (L.state joining.old.link.now) (L.state joining.new.link.now)) }
+        ensures joined { IfOk result (λ joined. Joins joining.old.hello.password
+            (L.state joining.old.link.now) (L.state joining.new.link.now) joined) }
+        ensures err { IfErr result (λ fault. FailsAs joining.old.hello.password fault
+            (L.state joining.old.link.now) (L.state joining.new.link.now)) }
         ensures same { joining.new.link.ghost_name ≡ joining.old.link.ghost_name }
         ensures first { joining.new.first ≡ joining.old.first }
         ensures password { joining.new.hello.password ≡ joining.old.hello.password };
@@ -30,9 +32,11 @@ pub trait JoinsOn<L: Link> {
 /// Has the host's handshake heard, up to its end and no byte further, and the client's side given.
 fn hear_on<L: Link, R: Wait>(rt: &R, joining: &mut Joining<'_, L>) -> Result<Joined, Fault>
     requires { (joining.old.is_heard ≡ false) × IsUnheard joining.old.hello }
-    ensures heard { IfOk result (λ joined. IsHeard (L.state joining.old.link.now) (L.state joining.new.link.now) joining.new.hello joined) }
+    ensures heard { IfOk result (λ joined. IsHeard (L.state joining.old.link.now)
+        (L.state joining.new.link.now) joining.new.hello joined) }
     ensures size { IfOk result (λ joined. (joined.w ≤ 4096) × (joined.h ≤ 4096)) }
-    ensures err { IfErr result (λ fault. FailsAs joining.old.hello.password fault (L.state joining.old.link.now) (L.state joining.new.link.now)) }
+    ensures err { IfErr result (λ fault. FailsAs joining.old.hello.password fault
+        (L.state joining.old.link.now) (L.state joining.new.link.now)) }
     ensures hears { joining.new.is_heard ≡ false }
     ensures same { joining.new.link.ghost_name ≡ joining.old.link.ghost_name }
     ensures first { joining.new.first ≡ joining.old.first }
@@ -54,7 +58,12 @@ fn hear_on<L: Link, R: Wait>(rt: &R, joining: &mut Joining<'_, L>) -> Result<Joi
 /// Has the first messages told to their end.
 fn tell_on<L: Link, R: Wait>(rt: &R, joining: &mut Joining<'_, L>) -> Result<(), Fault>
     requires { joining.old.is_heard ≡ true }
-    ensures tells { (password : Option (List ℕ)) (start : LinkState) (joined : Joined) → IsTelling password start (L.state joining.old.link.now) joined joining.old.messages joining.old.given → MatchResult result (λ _. IsTelling password start (L.state joining.new.link.now) joined joining.new.messages joining.new.given) (λ fault. LinkFails fault start (L.state joining.new.link.now)) }
+    ensures tells { (password : Option (List ℕ)) (start : LinkState) (joined : Joined)
+        → IsTelling password start (L.state joining.old.link.now)
+        joined joining.old.messages joining.old.given
+        → MatchResult result (λ _. IsTelling password start
+        (L.state joining.new.link.now) joined joining.new.messages joining.new.given)
+        (λ fault. LinkFails fault start (L.state joining.new.link.now)) }
     ensures whole { OnOk result (length joining.new.messages ≤ joining.new.given) }
     ensures same { joining.new.link.ghost_name ≡ joining.old.link.ghost_name }
     ensures first { joining.new.first ≡ joining.old.first }
@@ -72,8 +81,10 @@ fn tell_on<L: Link, R: Wait>(rt: &R, joining: &mut Joining<'_, L>) -> Result<(),
 /// Has the join go on until the host is joined or a fault comes. It is lent the join and nothing else that matters.
 pub fn join_on<L: Link, R: Wait>(rt: &R, joining: &mut Joining<'_, L>) -> Result<Joined, Fault>
     requires { (joining.old.is_heard ≡ false) × IsUnheard joining.old.hello }
-    ensures joined { IfOk result (λ joined. Joins joining.old.hello.password (L.state joining.old.link.now) (L.state joining.new.link.now) joined) }
-    ensures err { IfErr result (λ fault. FailsAs joining.old.hello.password fault (L.state joining.old.link.now) (L.state joining.new.link.now)) }
+    ensures joined { IfOk result (λ joined. Joins joining.old.hello.password
+        (L.state joining.old.link.now) (L.state joining.new.link.now) joined) }
+    ensures err { IfErr result (λ fault. FailsAs joining.old.hello.password fault
+        (L.state joining.old.link.now) (L.state joining.new.link.now)) }
     ensures same { joining.new.link.ghost_name ≡ joining.old.link.ghost_name }
     ensures first { joining.new.first ≡ joining.old.first }
     ensures password { joining.new.hello.password ≡ joining.old.hello.password }
@@ -90,8 +101,10 @@ pub fn join_by<L: Link, F: JoinsOn<L>>(
     password: Option<Password>,
     link: &mut L,
 ) -> Result<Joined, Fault>
-    ensures joined { IfOk result (λ joined. Joins password (L.state link.old) (L.state link.new) joined) }
-    ensures err { IfErr result (λ fault. FailsAs password fault (L.state link.old) (L.state link.new)) }
+    ensures joined { IfOk result (λ joined.
+        Joins password (L.state link.old) (L.state link.new) joined) }
+    ensures err { IfErr result (λ fault.
+        FailsAs password fault (L.state link.old) (L.state link.new)) }
 {
     let first = Snapshot::of(&*link);
     let mut joining = Joining::new(password, &first, link);
@@ -121,8 +134,10 @@ pub fn join_host<L: Link, R: Wait>(
     password: Option<Password>,
     link: &mut L,
 ) -> Result<Joined, Fault>
-    ensures joined { IfOk result (λ joined. Joins password (L.state link.old) (L.state link.new) joined) }
-    ensures err { IfErr result (λ fault. FailsAs password fault (L.state link.old) (L.state link.new)) }
+    ensures joined { IfOk result (λ joined.
+        Joins password (L.state link.old) (L.state link.new) joined) }
+    ensures err { IfErr result (λ fault.
+        FailsAs password fault (L.state link.old) (L.state link.new)) }
 {
     join_by(&Waiting { rt }, password, link)
 }

@@ -32,14 +32,16 @@ pub struct Joining<'a, L: Link> {
     given: usize,
     // How it all began. It is lent, so no step can put another beginning in its place.
     first: &'a Snapshot<L>,
-    ghost lawful: { ∥ IsJoining is_heard (L.state first.now.value) (L.state link.now) hello messages given ∥₁ },
+    ghost lawful: { ∥ IsJoining is_heard (L.state first.now.value) (L.state link.now)
+        hello messages given ∥₁ },
 }
 
 impl<'a, L: Link> Joining<'a, L> {
     /// A join that begins, of a host with this password, over a link that stands as it did at the beginning.
     pub fn new(password: Option<Password>, first: &'a Snapshot<L>, link: &'a mut L) -> Self
         requires { first.now.value ≡ link.old }
-        ensures link { (result.link.now ≡ link.old) × (result.link.ghost_name ≡ link.entry.ghost_name) }
+        ensures link { (result.link.now ≡ link.old)
+            × (result.link.ghost_name ≡ link.entry.ghost_name) }
         ensures begins { (result.is_heard ≡ false) × IsUnheard result.hello }
         ensures first { result.first ≡ first.entry }
         ensures password { result.hello.password ≡ password }
@@ -56,7 +58,8 @@ impl<'a, L: Link> Joining<'a, L> {
 
     /// It does nothing. Its clause says what is true of the join at every moment.
     pub fn so_far(&self)
-        ensures { ∥ JoinsSoFar self.now.hello.password (L.state self.now.first.now.value) (L.state self.now.link.now) ∥₁ }
+        ensures { ∥ JoinsSoFar self.now.hello.password
+            (L.state self.now.first.now.value) (L.state self.now.link.now) ∥₁ }
     {}
 
     /// Whether something is to be said to the host that wasn't given yet.
@@ -78,7 +81,10 @@ impl<'a, L: Link> Joining<'a, L> {
     pub(crate) fn say(&mut self) -> Result<(), Fault>
         requires hears { self.old.is_heard ≡ false }
         requires owes { 0 < length (to_send self.old.hello) }
-        ensures keeps { (start : LinkState) → IsHearing start (L.state self.old.link.now) self.old.hello → MatchResult result (λ _. IsHearing start (L.state self.new.link.now) self.new.hello) (λ fault. FailsAs self.old.hello.password fault start (L.state self.new.link.now)) }
+        ensures keeps { (start : LinkState)
+            → IsHearing start (L.state self.old.link.now) self.old.hello
+            → MatchResult result (λ _. IsHearing start (L.state self.new.link.now) self.new.hello)
+            (λ fault. FailsAs self.old.hello.password fault start (L.state self.new.link.now)) }
         ensures hears { self.new.is_heard ≡ false }
         ensures same { self.new.link.ghost_name ≡ self.old.link.ghost_name }
         ensures first { self.new.first ≡ self.old.first }
@@ -91,7 +97,10 @@ impl<'a, L: Link> Joining<'a, L> {
     pub(crate) fn hear(&mut self) -> Result<(), Fault>
         requires hears { self.old.is_heard ≡ false }
         requires open { wants_more (ahead self.old.hello) ≡ true }
-        ensures keeps { (start : LinkState) → IsHearing start (L.state self.old.link.now) self.old.hello → MatchResult result (λ _. IsHearing start (L.state self.new.link.now) self.new.hello) (λ fault. FailsAs self.old.hello.password fault start (L.state self.new.link.now)) }
+        ensures keeps { (start : LinkState)
+            → IsHearing start (L.state self.old.link.now) self.old.hello
+            → MatchResult result (λ _. IsHearing start (L.state self.new.link.now) self.new.hello)
+            (λ fault. FailsAs self.old.hello.password fault start (L.state self.new.link.now)) }
         ensures hears { self.new.is_heard ≡ false }
         ensures same { self.new.link.ghost_name ≡ self.old.link.ghost_name }
         ensures first { self.new.first ≡ self.old.first }
@@ -106,8 +115,10 @@ impl<'a, L: Link> Joining<'a, L> {
         requires whole { whole_of (ahead self.old.hello) ≡ Some joined.now }
         requires said { AllIsSaid self.old.hello }
         requires size { (joined.now.w ≤ 4096) × (joined.now.h ≤ 4096) }
-        ensures tells { (self.new.is_heard ≡ true) × (self.new.given ≡ 0) × (self.new.messages ≡ first_messages joined.now) }
-        ensures link { (self.new.link.now ≡ self.old.link.now) × (self.new.link.ghost_name ≡ self.old.link.ghost_name) }
+        ensures tells { (self.new.is_heard ≡ true) × (self.new.given ≡ 0)
+            × (self.new.messages ≡ first_messages joined.now) }
+        ensures link { (self.new.link.now ≡ self.old.link.now)
+            × (self.new.link.ghost_name ≡ self.old.link.ghost_name) }
         ensures first { self.new.first ≡ self.old.first }
         ensures password { self.new.hello.password ≡ self.old.hello.password }
     {
@@ -128,7 +139,12 @@ impl<'a, L: Link> Joining<'a, L> {
     pub(crate) fn tell(&mut self) -> Result<(), Fault>
         requires tells { self.old.is_heard ≡ true }
         requires part { self.old.given < length self.old.messages }
-        ensures keeps { (password : Option (List ℕ)) (start : LinkState) (joined : Joined) → IsTelling password start (L.state self.old.link.now) joined self.old.messages self.old.given → MatchResult result (λ _. IsTelling password start (L.state self.new.link.now) joined self.new.messages self.new.given) (λ fault. LinkFails fault start (L.state self.new.link.now)) }
+        ensures keeps { (password : Option (List ℕ)) (start : LinkState) (joined : Joined)
+            → IsTelling password start (L.state self.old.link.now)
+            joined self.old.messages self.old.given
+            → MatchResult result (λ _. IsTelling password start
+            (L.state self.new.link.now) joined self.new.messages self.new.given)
+            (λ fault. LinkFails fault start (L.state self.new.link.now)) }
         ensures tells { self.new.is_heard ≡ true }
         ensures same { self.new.link.ghost_name ≡ self.old.link.ghost_name }
         ensures first { self.new.first ≡ self.old.first }

@@ -34,9 +34,15 @@ impl Model for MemoryLink {
 
     ghost Value = { LinkState };
 
-    ghost view = { λ l. record { taken = take l.taken l.sends.items; given = take l.given l.room.items; failed = l.failures; ended = l.ends } };
+    ghost view = { λ l. record {
+      taken = take l.taken l.sends.items;
+      given = take l.given l.room.items;
+      failed = l.failures;
+      ended = l.ends;
+    } };
 
-    ghost invariant = { λ l. (l.taken ≤ length l.sends.items) × (l.given ≤ length l.room.items) × (l.failures ≤ 2 ^ 62) × (l.ends ≤ 2 ^ 62) };
+    ghost invariant = { λ l. (l.taken ≤ length l.sends.items) × (l.given ≤ length l.room.items)
+        × (l.failures ≤ 2 ^ 62) × (l.ends ≤ 2 ^ 62) };
 }
 
 /// How many bytes these answers allow in all.
@@ -73,7 +79,8 @@ impl MemoryLink {
         takes: Vec<Took>,
         gives: Vec<Gave>,
     ) -> Result<MemoryLink, Fault>
-        ensures ok { IfOk result (λ link. link ≡ record { taken = []; given = []; failed = 0; ended = 0 }) }
+        ensures ok { IfOk result (λ link.
+            link ≡ record { taken = []; given = []; failed = 0; ended = 0 }) }
         ensures err { IfErr result (λ fault. fault ≡ Memory) }
     {
         let room = vec![in alloc; 0u8; most(gives.as_slice())]?;

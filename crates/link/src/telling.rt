@@ -27,7 +27,8 @@ pub(crate) const MESSAGES_LEN: usize = 54;
 fn write_messages(width: u64, height: u64, out: &mut [u8])
     requires room { length out.old ≡ 54 }
     requires size { (width ≤ 4096) × (height ≤ 4096) }
-    ensures { (joined : Joined) → joined.w ≡ width → joined.h ≡ height → out.new ≡ first_messages joined }
+    ensures { (joined : Joined) → joined.w ≡ width → joined.h ≡ height
+        → out.new ≡ first_messages joined }
 {
     let screen = Rect {
         x: 0,
@@ -52,7 +53,8 @@ fn write_messages(width: u64, height: u64, out: &mut [u8])
 /// The first messages to a host whose screen has this size.
 pub(crate) fn messages_of(width: u64, height: u64) -> [u8; MESSAGES_LEN]
     requires { (width ≤ 4096) × (height ≤ 4096) }
-    ensures { (joined : Joined) → joined.w ≡ width → joined.h ≡ height → result ≡ first_messages joined }
+    ensures { (joined : Joined) → joined.w ≡ width → joined.h ≡ height
+        → result ≡ first_messages joined }
 {
     let mut messages = [0; MESSAGES_LEN];
     write_messages(width, height, &mut messages);
@@ -62,8 +64,14 @@ pub(crate) fn messages_of(width: u64, height: u64) -> [u8; MESSAGES_LEN]
 /// Gives as much as the link takes now of these messages, of which so many bytes were given.
 pub(crate) fn tell<L: Link>(link: &mut L, messages: &[u8], given: &mut usize) -> Result<(), Fault>
     requires { given.old < length messages.now }
-    ensures so_far { (password : Option (List ℕ)) (start : LinkState) (joined : Joined) → TellsSoFar password start (L.state link.old) joined messages.now given.old → TellsSoFar password start (L.state link.new) joined messages.now given.new }
-    ensures keeps { (password : Option (List ℕ)) (start : LinkState) (joined : Joined) → IsTelling password start (L.state link.old) joined messages.now given.old → MatchResult result (λ _. IsTelling password start (L.state link.new) joined messages.now given.new) (λ fault. LinkFails fault start (L.state link.new)) }
+    ensures so_far { (password : Option (List ℕ)) (start : LinkState) (joined : Joined)
+        → TellsSoFar password start (L.state link.old) joined messages.now given.old
+        → TellsSoFar password start (L.state link.new) joined messages.now given.new }
+    ensures keeps { (password : Option (List ℕ)) (start : LinkState) (joined : Joined)
+        → IsTelling password start (L.state link.old) joined messages.now given.old
+        → MatchResult result
+        (λ _. IsTelling password start (L.state link.new) joined messages.now given.new)
+        (λ fault. LinkFails fault start (L.state link.new)) }
 {
     let (_, left) = messages.split_at(*given);
     let count = give_some(link, left)?;

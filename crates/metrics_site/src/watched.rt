@@ -24,7 +24,8 @@ pub struct Watched {
 /// Adds a field with a text as its value.
 fn add(response: &mut Response, name: HeaderName, value: &'static str) -> Result<(), AllocError>
     requires { IsTrue (is_visible_text value.now) }
-    ensures fields { OnOk result (fields_of response.new ≡ fields_of response.old ++ (name, value.now) ∷ []) }
+    ensures fields { OnOk result
+        (fields_of response.new ≡ fields_of response.old ++ (name, value.now) ∷ []) }
     ensures status { response.new.status ≡ response.old.status }
     ensures body { response.new.body ≡ response.old.body }
 {
@@ -129,7 +130,8 @@ impl Service for &Watched {
     ghost use Rattle.http.specs.Request.{head_of};
     ghost use Rattle.metrics_site.specs.Replies.{Replies, reply_for};
 
-    ghost answers = { λ old request response new. Replies (reply_for old.now (head_of request)) response × (new ≡ old) };
+    ghost answers = { λ old request response new.
+        Replies (reply_for old.now (head_of request)) response × (new ≡ old) };
 
     fn call(
         &mut self,

@@ -37,7 +37,8 @@ fn encode(name: &[u8], is_abstract: bool) -> Option<([u8; c::_SS_SIZE], u32)>
 pub fn address_of(text: &str) -> Option<([u8; c::_SS_SIZE], u32)>
     ensures address { IfSome result (λ r. IsAddressOf text.now r) }
     ensures len { IfSome result (λ r. r.1 ≤ 110) }
-    ensures none { IsNone result → (address : List ℕ × ℕ) → IsAddressOf text.now address → 110 < address.1 }
+    ensures none { IsNone result → (address : List ℕ × ℕ) → IsAddressOf text.now address
+        → 110 < address.1 }
 {
     let bytes = text.as_bytes();
     let (first, rest) = bytes.split_first()?;

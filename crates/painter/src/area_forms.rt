@@ -33,7 +33,8 @@ pub(crate) fn forms_in<'a>(
 ) -> &'a [Option<TileForm>]
     requires size { IsScreenSize width height }
     requires within { IsWithin area.now width height }
-    ensures { (colours : Canvas) → AreFormsOf width height colours forms.now → AreFormsOf area.now.w area.now.h (part_of area.now colours) result.now }
+    ensures { (colours : Canvas) → AreFormsOf width height colours forms.now
+        → AreFormsOf area.now.w area.now.h (part_of area.now colours) result.now }
 {
     if !has_whole_tiles(area, width, height) {
         return &[];

@@ -27,7 +27,8 @@ pub struct AreaSource<'a> {
     pub forms: &'a [Option<TileForm>],
     pub ghost size: { IsScreenSize width height },
     pub ghost rows: { length colours.now ≡ width * height },
-    pub ghost kept: { AreFormsOf width height (value_at width colours.now) forms.now } by { Prim.hlevel props },
+    pub ghost kept: { AreFormsOf width height (value_at width colours.now)
+        forms.now } by { Prim.hlevel props },
 }
 
 impl<'a> AreaSource<'a> {
@@ -36,7 +37,10 @@ impl<'a> AreaSource<'a> {
     /// colours, or where some of these tiles are beyond the list.
     pub fn kept_forms(&self, area: &Rect, format: &Format) -> &'a [Option<TileForm>]
         requires { IsWithin area.now self.now.width self.now.height }
-        ensures { (pixels : Canvas) → LooksLike area.now.w area.now.h pixels (tinted format.now (part_of area.now (value_at self.now.width self.now.colours.now))) → AreKept format.now area.now.w area.now.h pixels result.now }
+        ensures { (pixels : Canvas)
+            → LooksLike area.now.w area.now.h pixels
+            (tinted format.now (part_of area.now (value_at self.now.width self.now.colours.now)))
+            → AreKept format.now area.now.w area.now.h pixels result.now }
     {
         if !format.keeps_apart() {
             return &[];
@@ -55,9 +59,11 @@ impl<'a> AreaSource<'a> {
         out: &mut [u8],
     ) -> Option<usize>
         requires within { IsWithin area.now self.now.width self.now.height }
-        requires kept { AreKept format.now area.now.w area.now.h (tinted format.now (part_of area.now (value_at self.now.width self.now.colours.now))) forms.now }
+        requires kept { AreKept format.now area.now.w area.now.h (tinted format.now
+            (part_of area.now (value_at self.now.width self.now.colours.now))) forms.now }
         requires room { 4 * (area.now.w * area.now.h) ≤ length out.old }
-        ensures { IsEncodedAs runs Hextile format.now area.now.w area.now.h (map (tint format.now) (colours_in (value_at self.now.width self.now.colours.now) area.now)) out.new result }
+        ensures { IsEncodedAs runs Hextile format.now area.now.w area.now.h (map (tint format.now)
+            (colours_in (value_at self.now.width self.now.colours.now) area.now)) out.new result }
     {
         let source = PixelSource {
             numbers: self.colours,

@@ -51,9 +51,29 @@ impl Model for Board {
 
     ghost Value = { Posted };
 
-    ghost view = { λ b. record { width = b.width; height = b.height; number = b.number; size = b.size; colours = b.colours.items; grid = b.grid; bells = b.bells; text = b.text } };
+    ghost view = { λ b. record {
+      width = b.width;
+      height = b.height;
+      number = b.number;
+      size = b.size;
+      colours = b.colours.items;
+      grid = b.grid;
+      bells = b.bells;
+      text = b.text;
+    } };
 
-    ghost invariant = { λ b. IsBoard (record { width = b.width; height = b.height; number = b.number; size = b.size; colours = b.colours.items; grid = b.grid; bells = b.bells; text = b.text }) × AreFormsOf b.width b.height (value_at b.width b.colours.items) b.forms.list.items × AreEncoded b.encoded.format (value_at b.width b.colours.items) (length b.encoded.bytes.items) b.encoded.bytes.items b.encoded.list.items };
+    ghost invariant = { λ b. IsBoard (record {
+      width = b.width;
+      height = b.height;
+      number = b.number;
+      size = b.size;
+      colours = b.colours.items;
+      grid = b.grid;
+      bells = b.bells;
+      text = b.text;
+    }) × AreFormsOf b.width b.height (value_at b.width b.colours.items) b.forms.list.items
+        × AreEncoded b.encoded.format (value_at b.width b.colours.items)
+        (length b.encoded.bytes.items) b.encoded.bytes.items b.encoded.list.items };
 }
 
 /// How many updates and how many Bells there are after a patch, given how many there were before it.
@@ -148,14 +168,16 @@ impl Board {
 
     /// For each tile, in order, the form of its colours, where one is kept. The list may end before the last tile.
     pub fn forms(&self) -> &[Option<TileForm>]
-        ensures { AreFormsOf self.now.width self.now.height (value_at self.now.width self.now.colours) result.now }
+        ensures { AreFormsOf self.now.width self.now.height
+            (value_at self.now.width self.now.colours) result.now }
     {
         self.forms.list.as_slice()
     }
 
     /// The data of an area in Hextile of joined runs in a format (RFC 6143, 7.7.4), where the area was encoded.
     pub fn encoded(&self, area: &Rect, format: &Format) -> Option<&[u8]>
-        ensures { IfSome result (λ bytes. IsHextileOf format.now (value_at self.now.width self.now.colours) area.now bytes.now) }
+        ensures { IfSome result (λ bytes.
+            IsHextileOf format.now (value_at self.now.width self.now.colours) area.now bytes.now) }
     {
         self.encoded.find(area, format)
     }
@@ -168,7 +190,8 @@ impl Board {
         requires number { self.old.number < 2 ^ 62 }
         ensures size { IsSameScreen self.old self.new }
         ensures number { self.new.number ≡ self.old.number + 1 }
-        ensures stands { (us : List Update) → BoardStands self.old us → BoardStands self.new (us ++ patch.now.update ∷ []) }
+        ensures stands { (us : List Update) → BoardStands self.old us
+            → BoardStands self.new (us ++ patch.now.update ∷ []) }
     {
         let (number, bells) = counted(self.number, self.bells, patch);
         patch.paint(self.colours.as_mut_slice());
@@ -198,7 +221,9 @@ impl Board {
         requires number { newer.now.number < 2 ^ 62 }
         ensures size { IsSameScreen self.old self.new }
         ensures number { self.new.number ≡ newer.now.number + 1 }
-        ensures stands { (us : List Update) → BoardStands self.old (take self.old.number us) → BoardStands newer.now us → BoardStands self.new (us ++ patch.now.update ∷ []) }
+        ensures stands { (us : List Update) → BoardStands self.old (take self.old.number us)
+            → BoardStands newer.now us
+            → BoardStands self.new (us ++ patch.now.update ∷ []) }
     {
         let (number, bells) = counted(newer.number, newer.bells, patch);
         // A patch paints whole tiles, so nothing of what was there stays.
@@ -260,7 +285,8 @@ impl Board {
         grid: Grid,
         text: LastText,
     ) -> Board
-        requires colours { (colours.items ≡ []) × (self.now.width * self.now.height ≤ vec_capacity colours) }
+        requires colours { (colours.items ≡ [])
+            × (self.now.width * self.now.height ≤ vec_capacity colours) }
         requires grid { (grid.width ≡ self.now.width) × (grid.height ≡ self.now.height) }
         ensures { result ≡ self.now }
     {

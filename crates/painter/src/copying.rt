@@ -14,7 +14,8 @@ pub fn copy_area(from: &[u32], into: &mut [u32], width: usize, height: usize, ar
     requires into { length into.old ≡ width * height }
     requires small { width * height < 2 ^ 62 }
     requires within { IsWithin area.now width height }
-    ensures { LooksLike width height (value_at width into.new) (lay area.now (part_of area.now (value_at width from.now)) (value_at width into.old)) }
+    ensures { LooksLike width height (value_at width into.new)
+        (lay area.now (part_of area.now (value_at width from.now)) (value_at width into.old)) }
 {
     let across = area.w as usize;
     for row in 0..area.h as usize {
@@ -29,7 +30,8 @@ pub(crate) fn copy_lacked(from: &[u32], into: &mut [u32], grid: &Grid, newer: &G
     requires size { (newer.now.width ≡ grid.now.width) × (newer.now.height ≡ grid.now.height) }
     requires from { length from.now ≡ newer.now.width * newer.now.height }
     requires into { length into.old ≡ newer.now.width * newer.now.height }
-    ensures { TookTiles newer.now.width newer.now.height (is_lacked grid.now newer.now number) from.now into.old into.new }
+    ensures { TookTiles newer.now.width newer.now.height (is_lacked grid.now newer.now number)
+        from.now into.old into.new }
 {
     let (width, height) = newer.size();
     let lacked = LackedSince::new(grid, newer, number);

@@ -29,7 +29,9 @@ fn encode_at(
     requires start { start ≤ length bytes.old }
     requires within { IsWithin area.now source.now.width source.now.height }
     ensures before { take start bytes.new ≡ take start bytes.old }
-    ensures some { IfSome result (λ end. (start ≤ end) × (end ≤ length bytes.new) × IsHextileOf format.now (value_at source.now.width source.now.colours.now) area.now (take (end - start) (drop start bytes.new))) }
+    ensures some { IfSome result (λ end. (start ≤ end) × (end ≤ length bytes.new)
+        × IsHextileOf format.now (value_at source.now.width source.now.colours.now) area.now
+        (take (end - start) (drop start bytes.new))) }
 {
     let (_, free) = bytes.split_at_mut(start);
     if (free.len() as u64) < WIDEST_PIXEL * (area.w * area.h) {
@@ -110,9 +112,13 @@ impl EncodedAreas {
     fn add(&mut self, source: &AreaSource, area: &Rect, start: usize) -> usize
         requires start { start ≤ length self.old.bytes.items }
         requires within { IsWithin area.now source.now.width source.now.height }
-        requires encoded { AreEncoded self.old.format (value_at source.now.width source.now.colours.now) start self.old.bytes.items self.old.list.items }
+        requires encoded { AreEncoded self.old.format
+            (value_at source.now.width source.now.colours.now) start
+            self.old.bytes.items self.old.list.items }
         ensures end { result ≤ length self.new.bytes.items }
-        ensures encoded { AreEncoded self.new.format (value_at source.now.width source.now.colours.now) result self.new.bytes.items self.new.list.items }
+        ensures encoded { AreEncoded self.new.format
+            (value_at source.now.width source.now.colours.now) result
+            self.new.bytes.items self.new.list.items }
     {
         let format = self.format;
         let Some(end) = encode_at(source, area, &format, self.bytes.as_mut_slice(), start) else {
@@ -132,8 +138,10 @@ impl EncodedAreas {
     /// Encodes the areas that were touched after update `number`, and no others.
     fn add_touched(&mut self, source: &AreaSource, grid: &Grid, number: u64)
         requires none { self.old.list.items ≡ [] }
-        requires same { (grid.now.width ≡ source.now.width) × (grid.now.height ≡ source.now.height) }
-        ensures { AreEncoded self.new.format (value_at source.now.width source.now.colours.now) (length self.new.bytes.items) self.new.bytes.items self.new.list.items }
+        requires same { (grid.now.width ≡ source.now.width)
+            × (grid.now.height ≡ source.now.height) }
+        ensures { AreEncoded self.new.format (value_at source.now.width source.now.colours.now)
+            (length self.new.bytes.items) self.new.bytes.items self.new.list.items }
     {
         let touched = TouchedSince::new(grid, number);
         let all = Rect {
@@ -153,7 +161,8 @@ impl EncodedAreas {
     /// is wanted, nothing is encoded.
     pub fn renew(&mut self, source: &AreaSource, grid: &Grid, number: u64, wanted: Option<Format>)
         requires { (grid.now.width ≡ source.now.width) × (grid.now.height ≡ source.now.height) }
-        ensures { AreEncoded self.new.format (value_at source.now.width source.now.colours.now) (length self.new.bytes.items) self.new.bytes.items self.new.list.items }
+        ensures { AreEncoded self.new.format (value_at source.now.width source.now.colours.now)
+            (length self.new.bytes.items) self.new.bytes.items self.new.list.items }
     {
         match wanted {
             None => self.clear(),
@@ -166,7 +175,9 @@ impl EncodedAreas {
 
     /// The data of an area in a format, where it is encoded.
     pub fn find(&self, area: &Rect, format: &Format) -> Option<&[u8]>
-        ensures { (colours : Canvas) (n : ℕ) → AreEncoded self.now.format colours n self.now.bytes.items self.now.list.items → IfSome result (λ bytes. IsHextileOf format.now colours area.now bytes.now) }
+        ensures { (colours : Canvas) (n : ℕ)
+            → AreEncoded self.now.format colours n self.now.bytes.items self.now.list.items
+            → IfSome result (λ bytes. IsHextileOf format.now colours area.now bytes.now) }
     {
         if self.format != *format {
             return None;

@@ -73,7 +73,8 @@ impl Forms {
     /// Makes a place for each tile of a screen, if there is room for so many.
     fn begin(&mut self, width: u64, height: u64)
         requires { IsScreenSize width height }
-        ensures { (t : ℕ) → slice_index_or self.new.list.items t None ≡ slice_index_or self.old.list.items t None }
+        ensures { (t : ℕ) → slice_index_or self.new.list.items t None
+            ≡ slice_index_or self.old.list.items t None }
     {
         let count = tile_count(width, height) as usize;
         if self.list.is_empty() && count <= self.list.capacity() {
@@ -86,7 +87,8 @@ impl Forms {
 
     /// The form of tile `t`, if one is kept.
     fn form(&self, t: usize) -> Option<&TileForm>
-        ensures some { IfSome result (λ form. slice_index_or self.now.list.items t None ≡ Some form.now) }
+        ensures some { IfSome result (λ form.
+            slice_index_or self.now.list.items t None ≡ Some form.now) }
         ensures none { IfNone result (slice_index_or self.now.list.items t None ≡ None) }
     {
         self.list.get(t)?.as_ref()
@@ -95,8 +97,11 @@ impl Forms {
     /// Gives tile `t` this form, or none, where there is a place for it.
     fn put(&mut self, t: usize, form: Option<TileForm>)
         ensures len { length self.new.list.items ≡ length self.old.list.items }
-        ensures here { t < length self.new.list.items → slice_index_or self.new.list.items t None ≡ form }
-        ensures others { (k : ℕ) → k ≢ t → slice_index_or self.new.list.items k None ≡ slice_index_or self.old.list.items k None }
+        ensures here { t < length self.new.list.items
+            → slice_index_or self.new.list.items t None ≡ form }
+        ensures others { (k : ℕ) → k ≢ t
+            → slice_index_or self.new.list.items k None
+            ≡ slice_index_or self.old.list.items k None }
     {
         if t < self.list.len() {
             self.list[t] = form;
@@ -107,8 +112,12 @@ impl Forms {
     /// kept becomes the newer one where it lies, since a whole form is long.
     fn put_newer(&mut self, t: usize, newer: &Forms)
         ensures len { length self.new.list.items ≡ length self.old.list.items }
-        ensures here { t < length self.new.list.items → slice_index_or self.new.list.items t None ≡ slice_index_or newer.now.list.items t None }
-        ensures others { (k : ℕ) → k ≢ t → slice_index_or self.new.list.items k None ≡ slice_index_or self.old.list.items k None }
+        ensures here { t < length self.new.list.items
+            → slice_index_or self.new.list.items t None
+            ≡ slice_index_or newer.now.list.items t None }
+        ensures others { (k : ℕ) → k ≢ t
+            → slice_index_or self.new.list.items k None
+            ≡ slice_index_or self.old.list.items k None }
     {
         let Some(form) = newer.form(t) else {
             self.put(t, None);
@@ -136,7 +145,9 @@ impl Forms {
     )
         requires size { IsScreenSize width height }
         requires tiles { AreTiles width height numbers.now colours.now }
-        ensures { (screen : Canvas) → ShowsTiles width height numbers.now colours.now screen → AreFormsBut numbers.now width height screen self.old.list.items → AreFormsOf width height screen self.new.list.items }
+        ensures { (screen : Canvas) → ShowsTiles width height numbers.now colours.now screen
+            → AreFormsBut numbers.now width height screen self.old.list.items
+            → AreFormsOf width height screen self.new.list.items }
     {
         let mut room = TileRoom::new();
         let mut left = colours;
@@ -159,8 +170,16 @@ impl Forms {
     pub fn renew(&mut self, patch: &Patch, colours: &[u32], keeps: bool)
         requires size { IsScreenSize patch.now.width patch.now.height }
         requires shown { IsPainted patch.now colours.now }
-        requires others { (t : ℕ) → t < length self.old.list.items → t < tile_count patch.now.width patch.now.height → touches (tile_rect patch.now.width patch.now.height t) patch.now.update ≡ false → IfSome (slice_index_or self.old.list.items t None) (λ form. FormStands form (tile_rect patch.now.width patch.now.height t).w (tile_rect patch.now.width patch.now.height t).h (part_of (tile_rect patch.now.width patch.now.height t) (value_at patch.now.width colours.now))) }
-        ensures { AreFormsOf patch.now.width patch.now.height (value_at patch.now.width colours.now) self.new.list.items }
+        requires others { (t : ℕ) → t < length self.old.list.items
+            → t < tile_count patch.now.width patch.now.height
+            → touches (tile_rect patch.now.width patch.now.height t) patch.now.update ≡ false
+            → IfSome (slice_index_or self.old.list.items t None) (λ form.
+            FormStands form (tile_rect patch.now.width patch.now.height t).w
+            (tile_rect patch.now.width patch.now.height t).h
+            (part_of (tile_rect patch.now.width patch.now.height t)
+            (value_at patch.now.width colours.now))) }
+        ensures { AreFormsOf patch.now.width patch.now.height
+            (value_at patch.now.width colours.now) self.new.list.items }
     {
         if self.are_unused(keeps) {
             return;
@@ -181,8 +200,11 @@ impl Forms {
         keeps: bool,
     )
         requires size { IsScreenSize width height }
-        requires same { (lacked.now.newer.now.width ≡ width) × (lacked.now.newer.now.height ≡ height) }
-        ensures { TookForms (tile_count width height) (is_lacked lacked.now.grid.now lacked.now.newer.now lacked.now.number) newer.now.list.items self.old.list.items self.new.list.items }
+        requires same { (lacked.now.newer.now.width ≡ width)
+            × (lacked.now.newer.now.height ≡ height) }
+        ensures { TookForms (tile_count width height)
+            (is_lacked lacked.now.grid.now lacked.now.newer.now lacked.now.number)
+            newer.now.list.items self.old.list.items self.new.list.items }
     {
         if self.are_unused(keeps) {
             return;

@@ -47,9 +47,19 @@ impl Model for Painter {
 
     ghost Value = { Painting };
 
-    ghost view = { λ s. record { width = s.raster.width; height = s.raster.height; colours = s.raster.colours; marks = s.touched.stamps; area = s.area; told = s.told } };
+    ghost view = { λ s. record {
+      width = s.raster.width;
+      height = s.raster.height;
+      colours = s.raster.colours;
+      marks = s.touched.stamps;
+      area = s.area;
+      told = s.told;
+    } };
 
-    ghost invariant = { λ s. IsScreenSize s.raster.width s.raster.height × (s.touched.width ≡ s.raster.width) × (s.touched.height ≡ s.raster.height) × IsWithin s.area s.raster.width s.raster.height × IsWithinScreen s.raster.width s.raster.height s.told };
+    ghost invariant = { λ s. IsScreenSize s.raster.width s.raster.height
+        × (s.touched.width ≡ s.raster.width) × (s.touched.height ≡ s.raster.height)
+        × IsWithin s.area s.raster.width s.raster.height
+        × IsWithinScreen s.raster.width s.raster.height s.told };
 }
 
 /// Adds the colours of a rectangle of a raster, row after row. It fails where memory is refused (`Memory`).
@@ -57,7 +67,8 @@ fn add_colours(colours: &mut Vec<u32>, raster: &Raster, area: &Rect) -> Result<(
     requires within { IsWithin area.now raster.now.width raster.now.height }
     requires small { raster.now.width * raster.now.height < 2 ^ 32 }
     requires wide { 0 < area.now.w }
-    ensures ok { OnOk result (colours.new.items ≡ colours.old.items ++ colours_in (shown raster.now) area.now) }
+    ensures ok { OnOk result
+        (colours.new.items ≡ colours.old.items ++ colours_in (shown raster.now) area.now) }
     ensures err { IfErr result (λ fault. fault ≡ Memory) }
 {
     for y in 0..area.h {
@@ -98,7 +109,8 @@ impl Painter {
         ensures size { IfOk result (λ made. (made.0.width ≡ width) × (made.0.height ≡ height)) }
         ensures black { IfOk result (λ made. IsPaintedOver opening [] made.0) }
         ensures sized { IfOk result (λ made. (made.1.width ≡ width) × (made.1.height ≡ height)) }
-        ensures same { IfOk result (λ made. (start : Canvas) → AreSameUpdates width height start (switch_to size ∷ []) (made.1.update ∷ [])) }
+        ensures same { IfOk result (λ made. (start : Canvas)
+            → AreSameUpdates width height start (switch_to size ∷ []) (made.1.update ∷ [])) }
         ensures err { IfErr result (λ fault. fault ≡ Memory) }
     {
         let mut black = Painter::new(alloc, width, height)?;
@@ -118,7 +130,8 @@ impl Painter {
     pub fn row(&self, y: u64) -> &[u32]
         requires { y < self.now.height }
         ensures count { length result.now ≡ self.now.width }
-        ensures colours { (x : ℕ) → x < self.now.width → slice_index result.now x ≡ worked self.now x y }
+        ensures colours { (x : ℕ) → x < self.now.width
+            → slice_index result.now x ≡ worked self.now x y }
     {
         self.raster.row(y)
     }
@@ -128,7 +141,9 @@ impl Painter {
         requires within { IsWithin area self.old.width self.old.height }
         requires count { length colours.now ≡ area.w * area.h }
         ensures size { IsAsLarge self.old self.new }
-        ensures painted { (start : Canvas) (paints : List update.Paint) → IsPaintedOver start paints self.old → IsPaintedOver start (paints ++ update.Put area colours.now ∷ []) self.new }
+        ensures painted { (start : Canvas) (paints : List update.Paint)
+            → IsPaintedOver start paints self.old
+            → IsPaintedOver start (paints ++ update.Put area colours.now ∷ []) self.new }
     {
         self.raster.put(area, colours);
         self.touched.touch(&area, TOUCHED);
@@ -139,7 +154,9 @@ impl Painter {
     pub fn resize(&mut self, size: Size)
         requires { (size.width ≤ self.old.width) × (size.height ≤ self.old.height) }
         ensures size { IsAsLarge self.old self.new }
-        ensures painted { (start : Canvas) (paints : List update.Paint) → IsPaintedOver start paints self.old → IsPaintedOver start (paints ++ update.Resized size ∷ []) self.new }
+        ensures painted { (start : Canvas) (paints : List update.Paint)
+            → IsPaintedOver start paints self.old
+            → IsPaintedOver start (paints ++ update.Resized size ∷ []) self.new }
     {
         let whole = Rect {
             x: 0,
@@ -156,9 +173,12 @@ impl Painter {
     /// (RFC 6143, 7.7.2). It always succeeds, and takes no memory.
     pub fn copy(&mut self, area: Rect, x: u64, y: u64)
         requires within { IsWithin area self.old.width self.old.height }
-        requires source { IsWithin (record { x = x; y = y; w = area.w; h = area.h }) self.old.width self.old.height }
+        requires source { IsWithin (record { x = x; y = y; w = area.w; h = area.h })
+            self.old.width self.old.height }
         ensures size { IsAsLarge self.old self.new }
-        ensures painted { (start : Canvas) (paints : List update.Paint) → IsPaintedOver start paints self.old → IsPaintedOver start (paints ++ update.Copy area x y ∷ []) self.new }
+        ensures painted { (start : Canvas) (paints : List update.Paint)
+            → IsPaintedOver start paints self.old
+            → IsPaintedOver start (paints ++ update.Copy area x y ∷ []) self.new }
     {
         self.raster.copy(area, x, y);
         self.touched.touch(&area, TOUCHED);
@@ -168,7 +188,9 @@ impl Painter {
     pub fn paint(&mut self, paint: &Paint)
         requires { Fits self.old.width self.old.height (paint_of paint.now) }
         ensures size { IsAsLarge self.old self.new }
-        ensures painted { (start : Canvas) (paints : List update.Paint) → IsPaintedOver start paints self.old → IsPaintedOver start (paints ++ paint_of paint.now ∷ []) self.new }
+        ensures painted { (start : Canvas) (paints : List update.Paint)
+            → IsPaintedOver start paints self.old
+            → IsPaintedOver start (paints ++ paint_of paint.now ∷ []) self.new }
     {
         match paint {
             Paint::Put(area, colours) => self.put(*area, colours.as_slice()),
@@ -187,8 +209,11 @@ impl Painter {
     /// Ends drawing on the rectangle: what it shows is one more paint. It always succeeds, and takes no memory.
     pub fn end_drawing(&mut self)
         ensures size { IsAsLarge self.old self.new }
-        ensures painted { (start : Canvas) (paints : List update.Paint) (colours : List ℕ) → IsPaintedAround start paints self.old.area self.old
-            → LooksLike self.old.area.w self.old.area.h (drawn self.old) (value_at self.old.area.w colours) → IsPaintedOver start (paints ++ update.Put self.old.area colours ∷ []) self.new }
+        ensures painted { (start : Canvas) (paints : List update.Paint) (colours : List ℕ)
+            → IsPaintedAround start paints self.old.area self.old
+            → LooksLike self.old.area.w self.old.area.h
+            (drawn self.old) (value_at self.old.area.w colours)
+            → IsPaintedOver start (paints ++ update.Put self.old.area colours ∷ []) self.new }
     {
         self.touched.touch(&self.area, TOUCHED);
     }
@@ -203,8 +228,10 @@ impl Painter {
 
     /// How many tiles were touched, and how many positions they have.
     fn touched_size(&self) -> (u64, u64)
-        ensures count { result.0 ≡ length (touched_below self.now (tile_count self.now.width self.now.height)) }
-        ensures area { result.1 ≡ sum_by (tile_area self.now.width self.now.height) (touched_below self.now (tile_count self.now.width self.now.height)) }
+        ensures count { result.0
+            ≡ length (touched_below self.now (tile_count self.now.width self.now.height)) }
+        ensures area { result.1 ≡ sum_by (tile_area self.now.width self.now.height)
+            (touched_below self.now (tile_count self.now.width self.now.height)) }
     {
         let (width, height) = (self.raster.width(), self.raster.height());
         let mut count = 0;
@@ -222,8 +249,11 @@ impl Painter {
     /// The tiles that were touched, in rising order: their numbers, and the colours of each as it looks now, one tile
     /// after the other. It fails where memory is refused (`Memory`).
     fn touched_tiles(&self) -> Result<(Vec<u64>, Vec<u32>), Fault>
-        ensures numbers { IfOk result (λ tiles. tiles.0.items ≡ touched_below self.now (tile_count self.now.width self.now.height)) }
-        ensures colours { IfOk result (λ tiles. tiles.1.items ≡ flat_map (λ t. colours_in (worked self.now) (tile_rect self.now.width self.now.height t)) (touched_below self.now (tile_count self.now.width self.now.height))) }
+        ensures numbers { IfOk result (λ tiles.
+            tiles.0.items ≡ touched_below self.now (tile_count self.now.width self.now.height)) }
+        ensures colours { IfOk result (λ tiles. tiles.1.items ≡ flat_map
+            (λ t. colours_in (worked self.now) (tile_rect self.now.width self.now.height t))
+            (touched_below self.now (tile_count self.now.width self.now.height))) }
         ensures err { IfErr result (λ fault. fault ≡ Memory) }
     {
         let (width, height) = (self.raster.width(), self.raster.height());
@@ -243,13 +273,23 @@ impl Painter {
     /// order, with the colours of the whole tile. Then no tile is touched: the next update begins. It fails where
     /// memory is refused (`Memory`).
     pub fn patch(&mut self) -> Result<Patch, Fault>
-        ensures patch { IfOk result (λ patch. patch ≡ record { width = self.old.width; height = self.old.height; update = update.Paints self.old.told (tile_puts self.old.width self.old.height (worked self.old) (is_touched self.old)) }) }
-        ensures same { IfOk result (λ patch. (start : Canvas) (paints : List update.Paint) → IsPaintedOver start paints self.old
-            → AreSameUpdates self.old.width self.old.height start (update.of_paints paints ∷ []) (patch.update ∷ [])) }
-        ensures most { IfOk result (λ patch. colours_of (update.paints_of patch.update) ≤ self.old.width * self.old.height) }
+        ensures patch { IfOk result (λ patch. patch ≡ record {
+          width = self.old.width;
+          height = self.old.height;
+          update = update.Paints self.old.told
+              (tile_puts self.old.width self.old.height (worked self.old) (is_touched self.old));
+        }) }
+        ensures same { IfOk result (λ patch.
+            (start : Canvas) (paints : List update.Paint) → IsPaintedOver start paints self.old
+            → AreSameUpdates self.old.width self.old.height start
+            (update.of_paints paints ∷ []) (patch.update ∷ [])) }
+        ensures most { IfOk result (λ patch.
+            colours_of (update.paints_of patch.update) ≤ self.old.width * self.old.height) }
         ensures size { IsAsLarge self.old self.new }
         ensures shows { self.new.colours ≡ self.old.colours }
-        ensures begun { OnOk result ((start : Canvas) → LooksLike self.old.width self.old.height (worked self.old) start → IsPaintedOver start [] self.new) }
+        ensures begun { OnOk result
+            ((start : Canvas) → LooksLike self.old.width self.old.height (worked self.old) start
+            → IsPaintedOver start [] self.new) }
         ensures err { IfErr result (λ fault. fault ≡ Memory) }
     {
         let (width, height) = self.size();
@@ -270,9 +310,13 @@ impl Painter {
     /// It fails where memory is refused (`Memory`), and then nothing has changed.
     pub fn switch(&mut self) -> Result<Patch, Fault>
         ensures size { IsAsLarge self.old self.new }
-        ensures sized { IfOk result (λ patch. (patch.width ≡ self.old.width) × (patch.height ≡ self.old.height)) }
-        ensures same { IfOk result (λ patch. (start : Canvas) → AreSameUpdates self.old.width self.old.height start (switch self.old.width self.old.height ∷ []) (patch.update ∷ [])) }
-        ensures begun { OnOk result ((start : Canvas) → IsPaintedOver (update.after_paints start (update.paints_of (switch self.old.width self.old.height))) [] self.new) }
+        ensures sized { IfOk result (λ patch.
+            (patch.width ≡ self.old.width) × (patch.height ≡ self.old.height)) }
+        ensures same { IfOk result (λ patch. (start : Canvas)
+            → AreSameUpdates self.old.width self.old.height start
+            (switch self.old.width self.old.height ∷ []) (patch.update ∷ [])) }
+        ensures begun { OnOk result ((start : Canvas) → IsPaintedOver (update.after_paints start
+            (update.paints_of (switch self.old.width self.old.height))) [] self.new) }
         ensures err { IfErr result (λ fault. (fault ≡ Memory) × (self.new ≡ self.old)) }
     {
         let (width, height) = self.size();

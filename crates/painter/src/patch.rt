@@ -42,7 +42,11 @@ impl Model for Patch {
 
     ghost Value = { SizedUpdate };
 
-    ghost view = { λ p. record { width = p.width; height = p.height; update = update_of p.width p.height p.change } };
+    ghost view = { λ p. record {
+      width = p.width;
+      height = p.height;
+      update = update_of p.width p.height p.change;
+    } };
 
     ghost invariant = { λ p. IsScreenSize p.width p.height × IsFor p.width p.height p.change };
 }
@@ -52,7 +56,9 @@ fn put_tiles(screen: &mut [u32], width: u64, height: u64, numbers: &[u64], colou
     requires size { IsScreenSize width height }
     requires rows { length screen.old ≡ width * height }
     requires tiles { AreTiles width height numbers.now colours.now }
-    ensures { LooksLike width height (value_at width screen.new) (after_paints (value_at width screen.old) (tile_paints width height numbers.now colours.now)) }
+    ensures { LooksLike width height (value_at width screen.new)
+        (after_paints (value_at width screen.old)
+        (tile_paints width height numbers.now colours.now)) }
 {
     let mut left = colours;
     for number in numbers {
@@ -67,7 +73,8 @@ fn put_tiles(screen: &mut [u32], width: u64, height: u64, numbers: &[u64], colou
 fn touch_tiles(grid: &mut Grid, width: u64, height: u64, numbers: &[u64], n: u64)
     requires size { IsScreenSize width height }
     requires tiles { All (λ t. t < tile_count width height) numbers.now }
-    ensures { IsTouched (λ t. list_any (λ k. meets (tile_rect width height k) (tile_rect grid.old.width grid.old.height t)) numbers.now) n grid.old grid.new }
+    ensures { IsTouched (λ t. list_any (λ k. meets (tile_rect width height k)
+        (tile_rect grid.old.width grid.old.height t)) numbers.now) n grid.old grid.new }
 {
     for number in numbers {
         grid.touch(&tile_rect(width, height, *number), n);
@@ -87,7 +94,11 @@ impl Patch {
         requires size { IsScreenSize width height }
         requires told { IsWithinScreen width height size }
         requires tiles { AreTouchedTiles width height numbers.items colours.items }
-        ensures { result ≡ record { width = width; height = height; update = Paints size (tile_paints width height numbers.items colours.items) } }
+        ensures { result ≡ record {
+          width = width;
+          height = height;
+          update = Paints size (tile_paints width height numbers.items colours.items);
+        } }
     {
         Patch {
             width,
@@ -150,7 +161,8 @@ impl Patch {
     /// The numbers of the tiles that it paints, rising, and their colours, one whole tile after the other, at most one
     /// for each position of the screen. A Bell or a text has none of either.
     pub fn tiles(&self) -> (&[u64], &[u32])
-        ensures paints { tile_paints self.now.width self.now.height result.0.now result.1.now ≡ paints_of self.now.update }
+        ensures paints { tile_paints self.now.width self.now.height result.0.now result.1.now
+            ≡ paints_of self.now.update }
         ensures tiles { AreTouchedTiles self.now.width self.now.height result.0.now result.1.now }
     {
         match &self.change {
@@ -163,7 +175,8 @@ impl Patch {
     /// The size of the host's own screen after the update, where this one, or none, was told before it (RFC 6143, 7.8.2).
     pub fn size_after(&self, before: Option<Size>) -> Option<Size>
         ensures size { result ≡ size_after_update before self.now.update }
-        ensures within { IsWithinScreen self.now.width self.now.height before → IsWithinScreen self.now.width self.now.height result }
+        ensures within { IsWithinScreen self.now.width self.now.height before
+            → IsWithinScreen self.now.width self.now.height result }
     {
         match &self.change {
             Change::Tiles(Some(size), _, _) => Some(*size),
@@ -203,7 +216,8 @@ impl Patch {
 
     /// Notes on a grid that this patch, as update `n`, touched its tiles. It always succeeds, and takes no memory.
     pub fn touch(&self, grid: &mut Grid, n: u64)
-        ensures { IsTouched (λ t. touches (tile_rect grid.old.width grid.old.height t) self.now.update) n grid.old grid.new }
+        ensures { IsTouched (λ t. touches (tile_rect grid.old.width grid.old.height t)
+            self.now.update) n grid.old grid.new }
     {
         let (numbers, _) = self.tiles();
         touch_tiles(grid, self.width, self.height, numbers, n);

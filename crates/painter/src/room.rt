@@ -31,7 +31,9 @@ impl Model for Room {
 
     ghost view = { λ r. record { width = r.width; height = r.height } };
 
-    ghost invariant = { λ r. IsScreenSize r.width r.height × (r.colours.items ≡ []) × (r.width * r.height ≤ vec_capacity r.colours) × (r.grid.width ≡ r.width) × (r.grid.height ≡ r.height) };
+    ghost invariant = { λ r. IsScreenSize r.width r.height
+        × (r.colours.items ≡ []) × (r.width * r.height ≤ vec_capacity r.colours)
+        × (r.grid.width ≡ r.width) × (r.grid.height ≡ r.height) };
 }
 
 impl Room {

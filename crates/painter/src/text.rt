@@ -28,7 +28,8 @@ impl Model for LastText {
 
     ghost view = { λ text. numbered text.bytes.items text.number };
 
-    ghost invariant = { λ text. (LONGEST_TEXT ≤ vec_capacity text.bytes) × (length text.bytes.items ≤ LONGEST_TEXT) };
+    ghost invariant = { λ text. (LONGEST_TEXT ≤ vec_capacity text.bytes)
+        × (length text.bytes.items ≤ LONGEST_TEXT) };
 }
 
 impl LastText {

@@ -24,7 +24,8 @@ impl Format {
 
     /// Whether a pixel value is spelled in four bytes, the least significant first.
     pub fn spells_words(&self) -> bool
-        ensures value { result ≡ true → (bytes : List ℕ) → pixel_of self.now bytes ≡ from_le_bytes w32 bytes }
+        ensures value { result ≡ true → (bytes : List ℕ)
+            → pixel_of self.now bytes ≡ from_le_bytes w32 bytes }
         ensures len { result ≡ true → pixel_len self.now ≡ 4 }
     {
         self.bits_per_pixel == 32 && !self.big_endian

@@ -48,7 +48,8 @@ impl ClockTime {
     /// Reads a text like `01:30:00`. It answers `None` where the text is of no time.
     pub fn read(text: &str) -> Option<ClockTime>
         ensures says { IfSome result (λ time. IsClockTime time × IsClockText text.now time) }
-        ensures none { IfNone result ((time : Time) → IsClockTime time → ¬ IsClockText text.now time) }
+        ensures none { IfNone result
+            ((time : Time) → IsClockTime time → ¬ IsClockText text.now time) }
     {
         let text = text.as_bytes();
         if text.len() != TEXT_LEN || text[2] != b':' || text[5] != b':' {

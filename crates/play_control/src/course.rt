@@ -59,7 +59,9 @@ impl Course {
 
     /// It goes on from now on, if it rests.
     pub fn play(&mut self, now: u64)
-        ensures { self.new ≡ record self.old { since = (if is_some self.old.since then self.old.since else Some now) } }
+        ensures { self.new ≡ record self.old {
+          since = (if is_some self.old.since then self.old.since else Some now);
+        } }
     {
         if self.since.is_none() {
             self.since = Some(now);

@@ -27,7 +27,8 @@ impl PlayRequest {
     /// Reads a line, without its line feed. It answers `None` where the line is no such request.
     pub fn read(line: &str) -> Option<PlayRequest>
         ensures says { IfSome result (λ request. IsInRange request × Says request line.now) }
-        ensures none { IfNone result ((request : declared.PlayRequest) → IsInRange request → ¬ Says request line.now) }
+        ensures none { IfNone result
+            ((request : declared.PlayRequest) → IsInRange request → ¬ Says request line.now) }
     {
         match line {
             "pause" => Some(PlayRequest::Pause),

@@ -122,7 +122,8 @@ impl Speed {
 
     /// Reads a text like `2`, `0.5` or `1.25`, of a speed from 0.25 to 16. It answers `None` where the text is of none.
     pub fn read(text: &str) -> Option<Speed>
-        ensures says { IfSome result (λ s. (25 ≤ s.hundredths) × (s.hundredths ≤ 1600) × SpellsSpeed text.now s.hundredths) }
+        ensures says { IfSome result (λ s.
+            (25 ≤ s.hundredths) × (s.hundredths ≤ 1600) × SpellsSpeed text.now s.hundredths) }
         ensures none { IfNone result ((n : ℕ) → 25 ≤ n → n ≤ 1600 → ¬ SpellsSpeed text.now n) }
     {
         let Some(hundredths) = hundredths(text.as_bytes()) else {

@@ -76,7 +76,8 @@ fn see_offered<'a>(
     rest: &'a [u8],
     has_result: bool,
 ) -> Option<(&'a [u8], Result<(), BadOpening>)>
-    ensures { option_map (λ s. (s.0.now, s.1)) result ≡ seen (offered (after_types has_result) types.now) rest.now }
+    ensures { option_map (λ s. (s.0.now, s.1)) result
+        ≡ seen (offered (after_types has_result) types.now) rest.now }
 {
     if !types.contains(&1) {
         return Some((rest, Err(BadOpening::NoNone)));
@@ -93,7 +94,8 @@ fn see_counted(
     bytes: &[u8],
     has_result: bool,
 ) -> Option<(&[u8], Result<(), BadOpening>)>
-    ensures { option_map (λ s. (s.0.now, s.1)) result ≡ seen (counted (after_types has_result) count) bytes.now }
+    ensures { option_map (λ s. (s.0.now, s.1)) result
+        ≡ seen (counted (after_types has_result) count) bytes.now }
 {
     if count == 0 {
         return Some((bytes, Err(BadOpening::Refused)));
@@ -107,7 +109,8 @@ fn see_counted(
 
 /// What is seen of security types, and of what follows them.
 fn see_security(bytes: &[u8], has_result: bool) -> Option<(&[u8], Result<(), BadOpening>)>
-    ensures { option_map (λ s. (s.0.now, s.1)) result ≡ seen (security (after_types has_result)) bytes.now }
+    ensures { option_map (λ s. (s.0.now, s.1)) result
+        ≡ seen (security (after_types has_result)) bytes.now }
 {
     if bytes.is_empty() {
         return None;
@@ -187,8 +190,8 @@ impl OpeningReader {
         requires closed { self.old.is_open ≡ false }
         requires begun { wants_more (after opening self.old.begun) ≡ true }
         ensures count { IfOk result (λ count. count ≤ length said.now) }
-        ensures goes_on { IfOk result (λ count. GoesOn self.new.is_open self.old.begun self.new.begun
-            (take count said.now)) }
+        ensures goes_on { IfOk result (λ count.
+            GoesOn self.new.is_open self.old.begun self.new.begun (take count said.now)) }
         ensures refused { IfErr result (λ why. IsNoOpening why (self.old.begun ++ said.now)) }
         ensures same { OnErr result (self.new ≡ self.old) }
     {

@@ -51,7 +51,8 @@ fn copy_front(bytes: &[u8], into: &mut [u8]) -> usize
 fn fitting(hello: &mut HostHello, is_front: bool, bytes: &[u8]) -> usize
     ensures count { result ≤ length bytes.now }
     ensures all { is_front ≡ false → result ≡ length bytes.now }
-    ensures front { is_front ≡ true → (played : List (ℕ × ℕ)) (time : ℕ) → HasHandshake hello.old played
+    ensures front { is_front ≡ true
+        → (played : List (ℕ × ℕ)) (time : ℕ) → HasHandshake hello.old played
         → HasHandshake hello.new (played ++ stamp time (take result bytes.now)) }
 {
     if !is_front {
@@ -248,7 +249,8 @@ impl<F: Recorded, P: Pace> PlayedLink<F, P> {
           failed = 0;
           ended = 0;
         }) }
-        ensures until { IfOk result (λ link. (link.until ≡ until) × (link.key ≡ Some moment.place)) }
+        ensures until { IfOk result (λ link.
+            (link.until ≡ until) × (link.key ≡ Some moment.place)) }
     {
         PlayedLink::with_key(alloc, file, pace, until, Some(moment.place))
     }

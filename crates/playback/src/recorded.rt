@@ -24,9 +24,11 @@ pub trait Recorded: Drop {
     fn read(&mut self, into: &mut [u8]) -> io::Result<usize>
         requires { 0 < length into.old }
         ensures start { start self.new ≡ start self.old }
-        ensures bytes { ReadsAs result (is_all (start self.old)) has_failed (so_far self.old) (so_far self.new) into.new };
+        ensures bytes { ReadsAs result (is_all (start self.old)) has_failed
+            (so_far self.old) (so_far self.new) into.new };
 
     /// Has reading go on at this place, in bytes from the file's beginning. It may lie behind the end.
     fn go_to(&mut self, place: u64) -> io::Result<()>
-        ensures { GoesAs result has_failed place (start self.old) (start self.new) (so_far self.old) (so_far self.new) };
+        ensures { GoesAs result has_failed place (start self.old) (start self.new)
+            (so_far self.old) (so_far self.new) };
 }

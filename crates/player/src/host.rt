@@ -39,10 +39,20 @@ impl<R: Wait + Clock + Drop, F: Recorded> Model for PlayedHost<R, F> {
 
     ghost view = { λ h. record {
       below = h.link;
-      own = record { taken = h.taken.bytes; given = h.given.bytes; failed = h.failures; ended = h.ends };
+      own = record {
+        taken = h.taken.bytes;
+        given = h.given.bytes;
+        failed = h.failures;
+        ended = h.ends;
+      };
     } };
 
-    ghost invariant = { λ h. IsOfBelow h.link (record { taken = h.taken.bytes; given = h.given.bytes; failed = h.failures; ended = h.ends }) };
+    ghost invariant = { λ h. IsOfBelow h.link (record {
+      taken = h.taken.bytes;
+      given = h.given.bytes;
+      failed = h.failures;
+      ended = h.ends;
+    }) };
 }
 
 impl<R: Wait + Clock + Drop, F: Recorded> PlayedHost<R, F> {

@@ -101,7 +101,9 @@ impl Block {
 
     /// Takes the next byte of the block. After the last byte it answers where the connection came from.
     pub(crate) fn take(mut self, byte: u8) -> Result<Block, Origin>
-        ensures { MatchResult result (λ more. more ≡ (self.0, self.1 ++ byte ∷ [])) (λ origin. (length (self.1 ++ byte ∷ []) ≡ block_len self.0) × (origin ≡ origin_in self.0 (self.1 ++ byte ∷ []))) }
+        ensures { MatchResult result (λ more. more ≡ (self.0, self.1 ++ byte ∷ []))
+            (λ origin. (length (self.1 ++ byte ∷ []) ≡ block_len self.0)
+            × (origin ≡ origin_in self.0 (self.1 ++ byte ∷ []))) }
     {
         self.begun.push(byte);
         if self.begun.len() < self.ip.block_len() {

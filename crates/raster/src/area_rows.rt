@@ -21,7 +21,9 @@ pub fn row_of<'a>(
     requires within { IsWithin area.now width height }
     requires row { row < area.now.h }
     ensures across { length result.now ≡ area.now.w }
-    ensures shows { result.now ≡ map (λ x. value_at width colours.now (area.now.x + x) (area.now.y + row)) (range_with_len 0 area.now.w) }
+    ensures shows { result.now
+        ≡ map (λ x. value_at width colours.now (area.now.x + x) (area.now.y + row))
+        (range_with_len 0 area.now.w) }
 {
     let from = (area.y as usize + row) * width + area.x as usize;
     &colours[from..from + area.w as usize]
@@ -40,7 +42,8 @@ pub fn write_rows(
     requires small { (width < 2 ^ 16) × (height < 2 ^ 16) }
     requires within { IsWithin area.now width height }
     requires room { length out.old ≡ pixel_len format.now * (area.now.w * area.now.h) }
-    ensures { out.new ≡ row_bytes format.now (values_of area.now.w area.now.h (part_of area.now (value_at width colours.now))) }
+    ensures { out.new ≡ row_bytes format.now
+        (values_of area.now.w area.now.h (part_of area.now (value_at width colours.now))) }
 {
     let row_len = format.bytes() * area.w as usize;
     for row in 0..area.h as usize {
@@ -63,7 +66,8 @@ pub fn tint_rows(
     requires small { (width < 2 ^ 16) × (height < 2 ^ 16) }
     requires within { IsWithin area.now width height }
     requires room { length values.old ≡ area.now.w * area.now.h }
-    ensures { values.new ≡ map (tint format.now) (values_of area.now.w area.now.h (part_of area.now (value_at width colours.now))) }
+    ensures { values.new ≡ map (tint format.now)
+        (values_of area.now.w area.now.h (part_of area.now (value_at width colours.now))) }
 {
     let across = area.w as usize;
     for row in 0..area.h as usize {

@@ -35,7 +35,8 @@ pub trait Canvas {
         ensures width { width self.new ≡ width self.old }
         ensures height { height self.new ≡ height self.old }
         ensures stays { Stays self.old self.new }
-        ensures shows { LooksLike (width self.old) (height self.old) (shows self.new) (fill (record { x = x; y = y; w = 1; h = 1 }) (keeps value) (shows self.old)) };
+        ensures shows { LooksLike (width self.old) (height self.old) (shows self.new)
+            (fill (record { x = x; y = y; w = 1; h = 1 }) (keeps value) (shows self.old)) };
 
     /// Puts a value on each position of a rectangle, which may be empty.
     fn fill(&mut self, area: Rect, value: u32)
@@ -43,7 +44,8 @@ pub trait Canvas {
         ensures width { width self.new ≡ width self.old }
         ensures height { height self.new ≡ height self.old }
         ensures stays { Stays self.old self.new }
-        ensures shows { LooksLike (width self.old) (height self.old) (shows self.new) (fill area (keeps value) (shows self.old)) };
+        ensures shows { LooksLike (width self.old) (height self.old) (shows self.new)
+            (fill area (keeps value) (shows self.old)) };
 
     /// Puts values on a part of row `y`, from column `x` on.
     fn put_row(&mut self, x: u64, y: u64, values: &[u32])
@@ -53,7 +55,9 @@ pub trait Canvas {
         ensures width { width self.new ≡ width self.old }
         ensures height { height self.new ≡ height self.old }
         ensures stays { Stays self.old self.new }
-        ensures shows { LooksLike (width self.old) (height self.old) (shows self.new) (lay (record { x = x; y = y; w = length values.now; h = 1 }) (kept keeps (value_at (length values.now) values.now)) (shows self.old)) }
+        ensures shows { LooksLike (width self.old) (height self.old) (shows self.new)
+            (lay (record { x = x; y = y; w = length values.now; h = 1 })
+            (kept keeps (value_at (length values.now) values.now)) (shows self.old)) }
     {
         for (i, value) in values.iter().enumerate() {
             self.put(x + i as u64, y, *value);
@@ -69,7 +73,10 @@ pub trait Canvas {
         ensures width { width self.new ≡ width self.old }
         ensures height { height self.new ≡ height self.old }
         ensures stays { Stays self.old self.new }
-        ensures shows { LooksLike (width self.old) (height self.old) (shows self.new) (lay (record { x = x; y = y; w = length values.now; h = 1 }) (kept keeps (value_at (length values.now) (map (from_le_bytes w32) values.now))) (shows self.old)) }
+        ensures shows { LooksLike (width self.old) (height self.old) (shows self.new)
+            (lay (record { x = x; y = y; w = length values.now; h = 1 })
+            (kept keeps (value_at (length values.now) (map (from_le_bytes w32) values.now)))
+            (shows self.old)) }
     {
         for (i, value) in values.iter().enumerate() {
             self.put(x + i as u64, y, u32::from_le_bytes(*value));

@@ -49,13 +49,18 @@ pub trait CodecReader {
         ensures format { format_of result ≡ format }
         ensures width { width result ≡ w }
         ensures height { height result ≡ h }
-        ensures begins { values_read w h (picture w h) (ahead result nothing) ≡ pixels encoding format w h }
+        ensures begins { values_read w h (picture w h) (ahead result nothing)
+            ≡ pixels encoding format w h }
         ensures stands { (keeps : ℕ → ℕ) (canvas : Map ℕ) → Stands keeps result canvas nothing };
 
     /// Whether the rectangle is read to its end. Then the canvas on which the reader drew shows the whole rectangle.
     fn whole(&self) -> bool
         ensures whole { (sofar : Sofar) → result ≡ is_some (whole_of (ahead self.now sofar)) }
-        ensures shows { (keeps : ℕ → ℕ) (canvas : Map ℕ) (sofar : Sofar) (read : Read) → Stands keeps self.now canvas sofar → ahead self.now sofar ≡ Done read → LooksLike (width self.now) (height self.now) canvas (kept keeps (picture (width self.now) (height self.now) read)) };
+        ensures shows { (keeps : ℕ → ℕ) (canvas : Map ℕ) (sofar : Sofar) (read : Read)
+            → Stands keeps self.now canvas sofar
+            → ahead self.now sofar ≡ Done read
+            → LooksLike (width self.now) (height self.now) canvas
+            (kept keeps (picture (width self.now) (height self.now) read)) };
 
     /// Whether another byte is wanted.
     fn is_open(&self) -> bool
@@ -80,7 +85,9 @@ pub trait CodecReader {
         ensures across { C.width canvas.new ≡ C.width canvas.old }
         ensures down { C.height canvas.new ≡ C.height canvas.old }
         ensures stays { C.Stays canvas.old canvas.new }
-        ensures drawn { (sofar : Sofar) → Stands C.keeps self.old (C.shows canvas.old) sofar → Steps ahead (Stands C.keeps) self.old self.new (C.shows canvas.new) (take result bytes.now) sofar };
+        ensures drawn { (sofar : Sofar) → Stands C.keeps self.old (C.shows canvas.old) sofar
+            → Steps ahead (Stands C.keeps) self.old self.new (C.shows canvas.new)
+            (take result bytes.now) sofar };
 }
 
 /// Takes the next piece, up to the end of the rectangle, and draws it on a canvas of the rectangle's size. It answers
@@ -99,9 +106,13 @@ pub fn read_piece<R: CodecReader, C: Canvas>(
     ensures down { C.height canvas.new ≡ C.height canvas.old }
     ensures stays { C.Stays canvas.old canvas.new }
     ensures within { IfOk result (λ used. used ≤ length piece.now) }
-    ensures some { ((sofar : R.Sofar) → wants_more (R.ahead reader.old sofar) ≡ true) → 0 < length piece.now → IfOk result (λ used. 0 < used) }
+    ensures some { ((sofar : R.Sofar) → wants_more (R.ahead reader.old sofar) ≡ true)
+        → 0 < length piece.now
+        → IfOk result (λ used. 0 < used) }
     ensures fine { OnOk result ((sofar : R.Sofar) → fault_of (R.ahead reader.new sofar) ≡ None) }
-    ensures drawn { (sofar : R.Sofar) → R.Stands C.keeps reader.old (C.shows canvas.old) sofar → Draws R.ahead (R.Stands C.keeps) reader.old reader.new (C.shows canvas.new) piece.now result sofar }
+    ensures drawn { (sofar : R.Sofar) → R.Stands C.keeps reader.old (C.shows canvas.old) sofar
+        → Draws R.ahead (R.Stands C.keeps) reader.old reader.new (C.shows canvas.new)
+        piece.now result sofar }
 {
     let mut left = piece;
     while !left.is_empty() && reader.is_open() {

@@ -30,9 +30,11 @@ fn make_colours(pixels: &[[u8; VALUE_LEN]], colours: &mut [u32])
 /// Writes the colours of pixels into a part of the values.
 fn lay_colours(values: &mut [u32], from: usize, pixels: &[[u8; VALUE_LEN]])
     requires { from + length pixels.now ≤ length values.old }
-    ensures inside { (k : ℕ) → k < length pixels.now → slice_index values.new (from + k) ≡ slice_index (map colour_in pixels.now) k }
+    ensures inside { (k : ℕ) → k < length pixels.now
+        → slice_index values.new (from + k) ≡ slice_index (map colour_in pixels.now) k }
     ensures outside { (k : ℕ) → k < from → slice_index values.new k ≡ slice_index values.old k }
-    ensures past { (k : ℕ) → from + length pixels.now ≤ k → slice_index values.new k ≡ slice_index values.old k }
+    ensures past { (k : ℕ) → from + length pixels.now ≤ k
+        → slice_index values.new k ≡ slice_index values.old k }
 {
     make_colours(pixels, &mut values[from..from + pixels.len()]);
 }
@@ -50,7 +52,10 @@ pub(crate) fn put_colours(
     requires small { w * h < 2 ^ 62 }
     requires across { x + length pixels.now ≤ w }
     requires down { y < h }
-    ensures { LooksLike w h (value_at w values.new) (lay (record { x = x; y = y; w = length pixels.now; h = 1 }) (kept colour_of (value_at (length pixels.now) (map (from_le_bytes w32) pixels.now))) (value_at w values.old)) }
+    ensures { LooksLike w h (value_at w values.new)
+        (lay (record { x = x; y = y; w = length pixels.now; h = 1 })
+        (kept colour_of (value_at (length pixels.now) (map (from_le_bytes w32) pixels.now)))
+        (value_at w values.old)) }
 {
     lay_colours(values, y * w + x, pixels);
 }

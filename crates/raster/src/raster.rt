@@ -30,7 +30,8 @@ impl Model for Raster {
 
     ghost view = { λ r. record { width = r.width; height = r.height; colours = r.colours.items } };
 
-    ghost invariant = { λ r. IsPicture (record { width = r.width; height = r.height; colours = r.colours.items }) };
+    ghost invariant = { λ r.
+        IsPicture (record { width = r.width; height = r.height; colours = r.colours.items }) };
 }
 
 impl Raster {
@@ -76,7 +77,8 @@ impl Raster {
     pub fn row(&self, y: u64) -> &[u32]
         requires { y < self.now.height }
         ensures count { length result.now ≡ self.now.width }
-        ensures colours { (x : ℕ) → x < self.now.width → slice_index result.now x ≡ shown self.now x y }
+        ensures colours { (x : ℕ) → x < self.now.width
+            → slice_index result.now x ≡ shown self.now x y }
     {
         let w = self.width as usize;
         let start = y as usize * w;
@@ -87,7 +89,8 @@ impl Raster {
     pub fn set(&mut self, x: u64, y: u64, colour: u32)
         requires across { x < self.old.width }
         requires down { y < self.old.height }
-        ensures { IsRedrawn self.old (fill (record { x = x; y = y; w = 1; h = 1 }) colour (shown self.old)) self.new }
+        ensures { IsRedrawn self.old
+            (fill (record { x = x; y = y; w = 1; h = 1 }) colour (shown self.old)) self.new }
     {
         self.colours[(y * self.width + x) as usize] = colour;
     }
@@ -110,7 +113,8 @@ impl Raster {
     /// left of the source, and the two may overlap.
     pub fn copy(&mut self, area: Rect, x: u64, y: u64)
         requires within { IsWithin area self.old.width self.old.height }
-        requires source { IsWithin (record { x = x; y = y; w = area.w; h = area.h }) self.old.width self.old.height }
+        requires source { IsWithin (record { x = x; y = y; w = area.w; h = area.h })
+            self.old.width self.old.height }
         ensures { IsRedrawn self.old (copy area x y (shown self.old)) self.new }
     {
         painting::copy(
@@ -127,7 +131,8 @@ impl Raster {
     pub fn put(&mut self, area: Rect, colours: &[u32])
         requires within { IsWithin area self.old.width self.old.height }
         requires count { length colours.now ≡ area.w * area.h }
-        ensures { IsRedrawn self.old (lay area (value_at area.w colours.now) (shown self.old)) self.new }
+        ensures { IsRedrawn self.old
+            (lay area (value_at area.w colours.now) (shown self.old)) self.new }
     {
         painting::put(
             self.colours.as_mut_slice(),
@@ -142,7 +147,9 @@ impl Raster {
     pub fn put_colours(&mut self, x: u64, y: u64, pixels: &[[u8; VALUE_LEN]])
         requires across { x + length pixels.now ≤ self.old.width }
         requires down { y < self.old.height }
-        ensures { IsRedrawn self.old (lay (record { x = x; y = y; w = length pixels.now; h = 1 }) (kept colour_of (value_at (length pixels.now) (map (from_le_bytes w32) pixels.now))) (shown self.old)) self.new }
+        ensures { IsRedrawn self.old (lay (record { x = x; y = y; w = length pixels.now; h = 1 })
+            (kept colour_of (value_at (length pixels.now) (map (from_le_bytes w32) pixels.now)))
+            (shown self.old)) self.new }
     {
         colours::put_colours(
             self.colours.as_mut_slice(),
@@ -157,7 +164,8 @@ impl Raster {
     /// Paints all of these, in order. It takes no memory, and always succeeds.
     pub fn paint_all(&mut self, paints: &[Paint])
         requires { All (λ p. Fits self.old.width self.old.height (paint_of p)) paints.now }
-        ensures { IsRedrawn self.old (after_paints (shown self.old) (map paint_of paints.now)) self.new }
+        ensures { IsRedrawn self.old
+            (after_paints (shown self.old) (map paint_of paints.now)) self.new }
     {
         painting::apply_paints(
             self.colours.as_mut_slice(),

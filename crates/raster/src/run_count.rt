@@ -14,7 +14,8 @@ const LONG: usize = 64;
 fn count_short_row(row: &[u32], background: u32) -> u32
     requires some { 0 < length row.now }
     requires small { length row.now < 2 ^ 16 }
-    ensures value { (y : ℕ) → result ≡ length (runs_of_row (row_shows row.now) background (length row.now) y) }
+    ensures value { (y : ℕ)
+        → result ≡ length (runs_of_row (row_shows row.now) background (length row.now) y) }
     ensures few { result ≤ length row.now }
 {
     let mut count = 0;
@@ -32,7 +33,8 @@ fn count_short_row(row: &[u32], background: u32) -> u32
 fn count_long_row(row: &[u32], background: u32) -> u32
     requires some { 0 < length row.now }
     requires small { length row.now < 2 ^ 16 }
-    ensures value { (y : ℕ) → result ≡ length (runs_of_row (row_shows row.now) background (length row.now) y) }
+    ensures value { (y : ℕ)
+        → result ≡ length (runs_of_row (row_shows row.now) background (length row.now) y) }
     ensures few { result ≤ length row.now }
 {
     // This counts the positions at which no run begins, with both tests at each, so that the processor tests many
@@ -48,7 +50,8 @@ fn count_long_row(row: &[u32], background: u32) -> u32
 fn count_row(row: &[u32], background: u32) -> u32
     requires some { 0 < length row.now }
     requires small { length row.now < 2 ^ 16 }
-    ensures value { (y : ℕ) → result ≡ length (runs_of_row (row_shows row.now) background (length row.now) y) }
+    ensures value { (y : ℕ)
+        → result ≡ length (runs_of_row (row_shows row.now) background (length row.now) y) }
     ensures few { result ≤ length row.now }
 {
     if row.len() < LONG {
@@ -67,7 +70,8 @@ pub fn has_runs(values: &[u32], w: usize, area: &Rect, enough: u64) -> bool
     requires high { area.now.y + area.now.h < 2 ^ 16 }
     requires across { area.now.x + area.now.w ≤ w }
     requires down { (area.now.y + area.now.h) * w ≤ length values.now }
-    ensures { result ≡ nat_le enough (length (runs (part_of area.now (value_at w values.now)) area.now.w area.now.h)) }
+    ensures { result ≡ nat_le enough
+        (length (runs (part_of area.now (value_at w values.now)) area.now.w area.now.h)) }
 {
     let first = area.y as usize * w + area.x as usize;
     let background = values[first];

@@ -60,7 +60,8 @@ impl Follower {
     /// Takes the message that is whole in what came last, if one is.
     fn take_message(&mut self)
         ensures { (w h : ℕ) (stream piece : List ℕ) → HasFed w h self.old stream piece
-            → Follows w h self.new (stream ++ take (taken (rest (host_message w h) stream) piece) piece) }
+            → Follows w h self.new
+            (stream ++ take (taken (rest (host_message w h) stream) piece) piece) }
     {
         let event = self.decoder.whole();
         self.is_between = event.is_some();

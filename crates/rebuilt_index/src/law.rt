@@ -17,9 +17,11 @@ ghost use Rattle.rebuilt_index.specs.Anew.{AreKeyMoments, IsKey, IsShownAnew};
 /// were found are an index of the recording.
 pub fn players_may_begin()
     ensures shows { (w h : ℕ) (before more later : List ℕ) → IsShownAnew w h before more
-        → LooksLike w h (screen (updates w h (more ++ later))) (screen (updates w h ((before ++ more) ++ later))) }
+        → LooksLike w h
+        (screen (updates w h (more ++ later))) (screen (updates w h ((before ++ more) ++ later))) }
     ensures stands { (w h : ℕ) (before more later : List ℕ) → IsShownAnew w h before more
-        → rest (host_message w h) (more ++ later) ≡ rest (host_message w h) ((before ++ more) ++ later) }
+        → rest (host_message w h) (more ++ later)
+        ≡ rest (host_message w h) ((before ++ more) ++ later) }
     ensures index { (moments : List KeyMoment) (blocks : List Block) → AreKeyMoments moments blocks
         → IsIndexOf moments blocks }
 {}

@@ -45,7 +45,8 @@ impl Session {
     /// Hears a block while the handshake goes on.
     fn hear(&mut self, said: &[u8]) -> Result<(), BadRebuild>
         requires { self.old.seeker ≡ None }
-        ensures { (blocks : List Block) (block : Block) → HasSeen self.old blocks → block.said ≡ said.now
+        ensures { (blocks : List Block) (block : Block) → HasSeen self.old blocks
+            → block.said ≡ said.now
             → OnOk result (HasSeen self.new (blocks ++ block ∷ [])) }
     {
         let used = self.hello.feed(said)?;
@@ -164,7 +165,8 @@ pub fn rebuild_index<F: Recorded, R: Wait>(
 ) -> Result<Vec<KeyMoment>, BadRebuild>
     requires start { F.start file.old ≡ 0 }
     requires none { F.so_far file.old ≡ [] }
-    ensures ok { IfOk result (λ moments. AreKeyMoments moments.items (blocks_in (F.so_far file.new))) }
+    ensures ok { IfOk result (λ moments.
+        AreKeyMoments moments.items (blocks_in (F.so_far file.new))) }
     ensures all { OnOk result (F.is_all 0 (F.so_far file.new)) }
 {
     let mut piece = vec![in alloc; 0u8; PIECE_LEN]?;

@@ -79,7 +79,8 @@ fn may_be_whole(width: u64, said: &[u8]) -> bool {
 impl Seeker {
     /// One who has seen nothing of a session but its handshake. It fails where memory is refused (`Memory`).
     pub(crate) fn new(alloc: Global, joined: &Joined) -> Result<Seeker, Fault>
-        ensures { (blocks : List Block) (hello rest : List ℕ) → IsOpened blocks hello joined.now rest
+        ensures { (blocks : List Block) (hello rest : List ℕ)
+            → IsOpened blocks hello joined.now rest
             → IfOk result (λ seeker. Seeks rest seeker blocks) }
     {
         let main = Follower::new(alloc, joined.w, joined.h)?;
@@ -115,7 +116,8 @@ impl Seeker {
 
     /// Follows what is said in the block.
     pub(crate) fn follow(&mut self, said: &[u8]) -> Result<(), Fault>
-        ensures { (blocks : List Block) → Seeks said.now self.old blocks → OnOk result (Seeks [] self.new blocks) }
+        ensures { (blocks : List Block) → Seeks said.now self.old blocks
+            → OnOk result (Seeks [] self.new blocks) }
     {
         self.main.feed(said)?;
         let Some(mut trial) = self.trial.take() else {
@@ -153,7 +155,8 @@ impl Seeker {
     /// Takes the block that was looked at for a key moment where all that it began shows the same; or leaves it alone
     /// where an update has come that doesn't.
     fn judge(&mut self) -> Result<(), BadRebuild>
-        ensures { (blocks : List Block) → Seeks [] self.old blocks → OnOk result (Seeks [] self.new blocks) }
+        ensures { (blocks : List Block) → Seeks [] self.old blocks
+            → OnOk result (Seeks [] self.new blocks) }
     {
         let Some(trial) = self.trial.take() else {
             return Ok(());

@@ -34,7 +34,8 @@ fn show_stream<L: Link, R: Wait>(
     link: &mut L,
 ) -> Result<Picture, Fault>
     requires { IsScreenSize w h }
-    ensures ok { IfOk result (λ picture. ShowsStream w h (L.state link.old) (L.state link.new) picture) }
+    ensures ok { IfOk result (λ picture.
+        ShowsStream w h (L.state link.old) (L.state link.new) picture) }
     ensures err { IfErr result (λ fault. StopsIn w h fault (L.state link.old) (L.state link.new)) }
 {
     let mut painter = Painter::new(alloc, w, h)?;

@@ -27,7 +27,12 @@ impl Model for Picture {
 
     ghost Value = { Shown };
 
-    ghost view = { λ p. record { width = p.board.width; height = p.board.height; colours = p.board.colours; updates = p.noted.updates } };
+    ghost view = { λ p. record {
+      width = p.board.width;
+      height = p.board.height;
+      colours = p.board.colours;
+      updates = p.noted.updates;
+    } };
 
     ghost invariant = { λ p. IsShown p.board p.noted.updates };
 }
@@ -36,7 +41,8 @@ impl Picture {
     /// A black picture of `width` by `height` pixels. It fails where memory is refused (`Memory`).
     pub fn black(alloc: Global, width: u64, height: u64) -> Result<Picture, Fault>
         requires { IsScreenSize width height }
-        ensures ok { IfOk result (λ picture. (picture.width ≡ width) × (picture.height ≡ height) × (picture.updates ≡ [])) }
+        ensures ok { IfOk result (λ picture.
+            (picture.width ≡ width) × (picture.height ≡ height) × (picture.updates ≡ [])) }
         ensures err { IfErr result (λ fault. fault ≡ Memory) }
     {
         let board = Board::new(alloc, width, height)?;
@@ -64,7 +70,8 @@ impl Picture {
 
     /// It does nothing. Its clause says what the picture shows at every moment.
     pub fn so_far(&self)
-        ensures { LooksLike self.now.width self.now.height (value_at self.now.width self.now.colours) (screen self.now.updates) }
+        ensures { LooksLike self.now.width self.now.height
+            (value_at self.now.width self.now.colours) (screen self.now.updates) }
     {
         let _ = &self.board;
     }

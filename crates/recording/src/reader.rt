@@ -83,7 +83,8 @@ fn block_end(begun: &[u8]) -> usize
 /// is within the bound.
 fn judge_block(last: u32, begun: &[u8]) -> Result<Block<'_>, BadRecording>
     requires head { 4 ≤ length begun.now }
-    requires whole { told_len begun.now ≤ LONGEST_READ → length begun.now ≡ time_place (told_len begun.now) + 4 }
+    requires whole { told_len begun.now ≤ LONGEST_READ
+        → length begun.now ≡ time_place (told_len begun.now) + 4 }
     ensures { shown result ≡ outcome (Some last) begun.now }
 {
     let len = told_len(begun);

@@ -24,7 +24,8 @@ fn put(bytes: &[u8], out: &mut [u8]) -> usize
 /// Spells the padding and the time that follow data of this length, and answers how many bytes they are.
 fn write_end(len: usize, time: u32, out: &mut [u8]) -> usize
     requires { padding_len len + 4 ≤ length out.old }
-    ensures { Writes (replicate (padding_len len) 0 ++ to_be_bytes w32 time) out.old out.new result }
+    ensures { Writes (replicate (padding_len len) 0 ++ to_be_bytes w32 time)
+        out.old out.new result }
 {
     let zeros = [0; 4];
     let (padding, _) = zeros.split_at(padding_len(len));
@@ -36,7 +37,8 @@ fn write_end(len: usize, time: u32, out: &mut [u8]) -> usize
 /// Spells data, with the padding and the time.
 fn write_body(said: &[u8], time: u32, out: &mut [u8]) -> usize
     requires { length said.now + padding_len (length said.now) + 4 ≤ length out.old }
-    ensures { Writes (said.now ++ (replicate (padding_len (length said.now)) 0 ++ to_be_bytes w32 time)) out.old out.new result }
+    ensures { Writes (said.now ++ (replicate (padding_len (length said.now)) 0
+        ++ to_be_bytes w32 time)) out.old out.new result }
 {
     let count = put(said, out);
     let (_, behind) = out.split_at_mut(count);
@@ -47,7 +49,8 @@ fn write_body(said: &[u8], time: u32, out: &mut [u8]) -> usize
 fn write_block(said: &[u8], time: u32, out: &mut [u8]) -> usize
     requires short { length said.now < 2 ^ 32 }
     requires room { 4 + length said.now + padding_len (length said.now) + 4 ≤ length out.old }
-    ensures { Writes (block_bytes (record { said = said.now; time = time })) out.old out.new result }
+    ensures { Writes (block_bytes (record { said = said.now; time = time }))
+        out.old out.new result }
 {
     let count = put(&(said.len() as u32).to_be_bytes(), out);
     let (_, behind) = out.split_at_mut(count);
@@ -75,7 +78,8 @@ impl Model for RecordingWriter {
 
     ghost view = { λ w. record { said = w.said.items; time = w.time } };
 
-    ghost invariant = { λ w. (length w.said.items ≤ LONGEST_WRITTEN) × (LONGEST_WRITTEN ≤ vec_capacity w.said) };
+    ghost invariant = { λ w. (length w.said.items ≤ LONGEST_WRITTEN)
+        × (LONGEST_WRITTEN ≤ vec_capacity w.said) };
 }
 
 impl RecordingWriter {

@@ -21,8 +21,10 @@ fn begins_as_line(bytes: &[u8]) -> bool
 
 /// Reads the entries that are whole, up to the first one that is at fault.
 fn read_entries(alloc: Global, entries: &[u8]) -> Result<Vec<KeyMoment>, BadIndex>
-    ensures ok { IfOk result (λ v. (fault_after start (all_in entries.now) ≡ None) × (v.items ≡ all_in entries.now)) }
-    ensures err { IfErr result (λ bad. (bad ≡ Memory) ⊎ (fault_after start (all_in entries.now) ≡ Some bad)) }
+    ensures ok { IfOk result (λ v.
+        (fault_after start (all_in entries.now) ≡ None) × (v.items ≡ all_in entries.now)) }
+    ensures err { IfErr result (λ bad.
+        (bad ≡ Memory) ⊎ (fault_after start (all_in entries.now) ≡ Some bad)) }
 {
     let mut moments = Vec::new(alloc);
     let mut before = KeyMoment { time: 0, place: 0 };
@@ -58,7 +60,8 @@ impl Index {
     /// (`NotAnIndex`), at the first key moment that is before the one before it (`TimeGoesBack`, `PlaceGoesBack`), and
     /// where memory is refused (`Memory`).
     pub fn read(alloc: Global, bytes: &[u8]) -> Result<Index, BadIndex>
-        ensures ok { IfOk result (λ index. (fault_in bytes.now ≡ None) × (index ≡ moments_in bytes.now)) }
+        ensures ok { IfOk result (λ index.
+            (fault_in bytes.now ≡ None) × (index ≡ moments_in bytes.now)) }
         ensures err { IfErr result (λ bad. (bad ≡ Memory) ⊎ (fault_in bytes.now ≡ Some bad)) }
     {
         if !begins_as_line(bytes) {

@@ -28,7 +28,13 @@ impl Model for Asked {
 
     ghost Value = { Wanted };
 
-    ghost view = { λ a. record { width = a.width; height = a.height; area = a.area; asked = a.asked; last = a.last } };
+    ghost view = { λ a. record {
+      width = a.width;
+      height = a.height;
+      area = a.area;
+      asked = a.asked;
+      last = a.last;
+    } };
 
     ghost invariant = { λ a. IsScreenSize a.width a.height × LiesOn a.width a.height a.area };
 }
@@ -52,10 +58,12 @@ impl Asked {
 
     /// A request was taken, whether incremental or not, and was clipped to the screen. An empty one is forgotten.
     pub fn request(&mut self, clipped: &Rect)
-        requires { is_empty clipped.now ≡ false → IsWithin clipped.now self.old.width self.old.height }
+        requires { is_empty clipped.now ≡ false
+            → IsWithin clipped.now self.old.width self.old.height }
         ensures size { IsSameScreen self.old self.new }
         ensures last { self.new.last ≡ self.old.last }
-        ensures stands { (incremental : Bool) (es : List Event) → AskedStands self.old es → AskedStands self.new (Requested incremental clipped.now ∷ es) }
+        ensures stands { (incremental : Bool) (es : List Event) → AskedStands self.old es
+            → AskedStands self.new (Requested incremental clipped.now ∷ es) }
     {
         if clipped.is_empty() {
             return;
@@ -72,7 +80,8 @@ impl Asked {
     pub fn new_format(&mut self)
         ensures size { IsSameScreen self.old self.new }
         ensures last { self.new.last ≡ self.old.last }
-        ensures stands { (es : List Event) → AskedStands self.old es → AskedStands self.new (NewFormat ∷ es) }
+        ensures stands { (es : List Event) → AskedStands self.old es
+            → AskedStands self.new (NewFormat ∷ es) }
     {
         self.asked = true;
     }
@@ -82,7 +91,8 @@ impl Asked {
         ensures size { IsSameScreen self.old self.new }
         ensures area { self.new.area ≡ self.old.area }
         ensures last { self.new.last ≡ Some number }
-        ensures stands { (es : List Event) → AskedStands self.old es → AskedStands self.new (WasCut number ∷ es) }
+        ensures stands { (es : List Event) → AskedStands self.old es
+            → AskedStands self.new (WasCut number ∷ es) }
     {
         self.asked = false;
         self.last = Some(number);
@@ -92,8 +102,10 @@ impl Asked {
     pub fn answered(&mut self)
         ensures size { IsSameScreen self.old self.new }
         ensures last { self.new.last ≡ self.old.last }
-        ensures stands { (area : Rect) (number : ℕ) (es : List Event) → AskedStands self.old es → AskedStands self.new (Answered area number ∷ es) }
-        ensures resized { (size : Size) (es : List Event) → AskedStands self.old es → AskedStands self.new (NewSize size ∷ es) }
+        ensures stands { (area : Rect) (number : ℕ) (es : List Event) → AskedStands self.old es
+            → AskedStands self.new (Answered area number ∷ es) }
+        ensures resized { (size : Size) (es : List Event) → AskedStands self.old es
+            → AskedStands self.new (NewSize size ∷ es) }
     {
         self.area = None;
     }

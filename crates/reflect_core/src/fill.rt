@@ -67,9 +67,11 @@ impl Cut {
         requires within { IsWithin area.now self.old.width self.old.height }
         requires screen { (have.now.width ≡ self.old.width) × (have.now.height ≡ self.old.height) }
         requires board { (board.now.width ≡ self.old.width) × (board.now.height ≡ self.old.height) }
-        requires shown { self.old.colours.is_shared ≡ true → self.old.colours.items ≡ board.now.colours }
+        requires shown { self.old.colours.is_shared ≡ true
+            → self.old.colours.items ≡ board.now.colours }
         ensures size { (self.new.width ≡ self.old.width) × (self.new.height ≡ self.old.height) }
-        ensures cut { (us : List Update) → BoardStands board.now us → IsCutOf us (length us) area.now have.now self.new }
+        ensures cut { (us : List Update) → BoardStands board.now us
+            → IsCutOf us (length us) area.now have.now self.new }
     {
         self.number = board.number();
         self.host_size = board.last_size();
@@ -92,7 +94,8 @@ impl Cut {
         requires screen { (have.now.width ≡ self.old.width) × (have.now.height ≡ self.old.height) }
         requires board { (board.now.width ≡ self.old.width) × (board.now.height ≡ self.old.height) }
         ensures size { (self.new.width ≡ self.old.width) × (self.new.height ≡ self.old.height) }
-        ensures cut { (us : List Update) → BoardStands board.now us → IsCutOf us (length us) area.now have.now self.new }
+        ensures cut { (us : List Update) → BoardStands board.now us
+            → IsCutOf us (length us) area.now have.now self.new }
     {
         let shown = board.board();
         // The colours that a board lends tell the proof how many it has.
@@ -107,7 +110,8 @@ impl Cut {
         requires screen { (have.now.width ≡ self.old.width) × (have.now.height ≡ self.old.height) }
         requires board { (board.now.width ≡ self.old.width) × (board.now.height ≡ self.old.height) }
         ensures size { (self.new.width ≡ self.old.width) × (self.new.height ≡ self.old.height) }
-        ensures cut { (us : List Update) → BoardStands board.now us → IsCutOf us (length us) area.now have.now self.new }
+        ensures cut { (us : List Update) → BoardStands board.now us
+            → IsCutOf us (length us) area.now have.now self.new }
     {
         self.colours.stand_alone(board.colours());
         self.keep(board, area, have);

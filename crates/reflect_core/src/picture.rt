@@ -39,7 +39,8 @@ impl Model for Picture {
 
     ghost Value = { Colours };
 
-    ghost view = { λ p. record { items = colours_of p.shared p.own.items; is_shared = is_some p.shared } };
+    ghost view = { λ p.
+        record { items = colours_of p.shared p.own.items; is_shared = is_some p.shared } };
 
     ghost invariant = { λ p. IsPicture p.shared p.own p.room };
 }
@@ -128,7 +129,8 @@ impl Picture {
         requires small { width * height < 2 ^ 62 }
         requires within { IsWithin area.now width height }
         requires shown { self.old.is_shared ≡ true → self.old.items ≡ colours.now }
-        ensures shows { LooksLike width height (value_at width self.new.items) (lay area.now (part_of area.now (value_at width colours.now)) (value_at width self.old.items)) }
+        ensures shows { LooksLike width height (value_at width self.new.items) (lay area.now
+            (part_of area.now (value_at width colours.now)) (value_at width self.old.items)) }
         ensures len { length self.new.items ≡ length self.old.items }
         ensures shared { self.new.is_shared ≡ self.old.is_shared }
         ensures kept { self.old.is_shared ≡ true → self.new.items ≡ self.old.items }
@@ -164,7 +166,8 @@ impl Picture {
     /// The data of an area in Hextile of joined runs in a format, where the board that it shares has it encoded, on a
     /// screen of this size.
     pub fn encoded(&self, width: u64, height: u64, area: &Rect, format: &Format) -> Option<&[u8]>
-        ensures { IfSome result (λ bytes. IsHextileOf format.now (value_at width self.now.items) area.now bytes.now) }
+        ensures { IfSome result (λ bytes.
+            IsHextileOf format.now (value_at width self.now.items) area.now bytes.now) }
     {
         match &self.shared {
             Some(board) if board.size() == (width, height) => board.encoded(area, format),

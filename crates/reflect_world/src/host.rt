@@ -28,16 +28,27 @@ impl Model for Host {
 
     ghost Value = { HostSide };
 
-    ghost view = { λ h. record { decoder = h.screen.decoder; painter = h.screen.painter; unread = h.unread; waiting = h.waiting } };
+    ghost view = { λ h. record {
+      decoder = h.screen.decoder;
+      painter = h.screen.painter;
+      unread = h.unread;
+      waiting = h.waiting;
+    } };
 
-    ghost invariant = { λ h. IsHost (record { decoder = h.screen.decoder; painter = h.screen.painter; unread = h.unread; waiting = h.waiting }) };
+    ghost invariant = { λ h. IsHost (record {
+      decoder = h.screen.decoder;
+      painter = h.screen.painter;
+      unread = h.unread;
+      waiting = h.waiting;
+    }) };
 }
 
 impl Host {
     /// A host over a black screen that has sent nothing. It fails where memory is refused (`Memory`).
     pub(crate) fn new(alloc: Global, width: u64, height: u64) -> Result<Self, Fault>
         requires { IsScreenSize width height }
-        ensures size { IfOk result (λ host. (host.decoder.width ≡ width) × (host.decoder.height ≡ height)) }
+        ensures size { IfOk result (λ host.
+            (host.decoder.width ≡ width) × (host.decoder.height ≡ height)) }
         ensures stands { IfOk result (λ host. HostStands [] [] [] host) }
         ensures err { IfErr result (λ fault. fault ≡ Memory) }
     {
@@ -51,7 +62,9 @@ impl Host {
     /// Keeps bytes that come from the host. Where memory is refused (`Memory`) nothing has changed.
     pub(crate) fn add(&mut self, bytes: &[u8]) -> Result<(), Fault>
         ensures same { IsSameHost self.old self.new }
-        ensures ok { OnOk result ((past : List Update) (all : List ℕ) (us : List Update) → HostStands past all us self.old → HostStands past (all ++ bytes.now) us self.new) }
+        ensures ok { OnOk result ((past : List Update) (all : List ℕ) (us : List Update)
+            → HostStands past all us self.old
+            → HostStands past (all ++ bytes.now) us self.new) }
         ensures err { IfErr result (λ fault. (fault ≡ Memory) × (self.new ≡ self.old)) }
     {
         self.unread.add(bytes)
@@ -63,7 +76,8 @@ impl Host {
         requires { CanRead self.old }
         ensures same { IsSameHost self.old self.new }
         ensures none { self.new.waiting ≡ None }
-        ensures size { IfOk result (λ found. IfSome found (λ patch. (patch.width ≡ self.old.decoder.width) × (patch.height ≡ self.old.decoder.height))) }
+        ensures size { IfOk result (λ found. IfSome found (λ patch.
+            (patch.width ≡ self.old.decoder.width) × (patch.height ≡ self.old.decoder.height))) }
         ensures ok { IfOk result (λ found. ReadsOn self.old self.new (Ok found)) }
         ensures err { IfErr result (λ fault. ReadsOn self.old self.new (Err fault)) }
     {
@@ -85,9 +99,12 @@ impl Host {
     /// Keeps an update that was read and couldn't be put. It is the next update again.
     pub(crate) fn keep(&mut self, patch: Patch)
         requires none { self.old.waiting ≡ None }
-        requires size { (patch.width ≡ self.old.decoder.width) × (patch.height ≡ self.old.decoder.height) }
+        requires size { (patch.width ≡ self.old.decoder.width)
+            × (patch.height ≡ self.old.decoder.height) }
         ensures same { IsSameHost self.old self.new }
-        ensures stands { (past : List Update) (bytes : List ℕ) (us : List Update) → HasReadTo past bytes (us ++ patch.update ∷ []) self.old → HasReadTo past bytes us self.new }
+        ensures stands { (past : List Update) (bytes : List ℕ) (us : List Update)
+            → HasReadTo past bytes (us ++ patch.update ∷ []) self.old
+            → HasReadTo past bytes us self.new }
     {
         self.waiting = Some(patch);
     }
@@ -113,9 +130,13 @@ impl Host {
         requires stands { CanRead self.old }
         ensures same { IsSameHost self.old self.new }
         ensures none { self.new.waiting ≡ None }
-        ensures size { IfOk result (λ found. IfSome found (λ event. IfSome (patch_in event) (λ patch. (patch.width ≡ self.old.decoder.width) × (patch.height ≡ self.old.decoder.height)))) }
-        ensures message { IfOk result (λ found. IfSome found (λ event. ReadsMessage self.old self.new (patch_in event))) }
-        ensures shorter { IfOk result (λ found. IfSome found (λ event. length self.new.unread < length self.old.unread)) }
+        ensures size { IfOk result (λ found. IfSome found (λ event.
+            IfSome (patch_in event) (λ patch.
+            (patch.width ≡ self.old.decoder.width) × (patch.height ≡ self.old.decoder.height)))) }
+        ensures message { IfOk result (λ found. IfSome found (λ event.
+            ReadsMessage self.old self.new (patch_in event))) }
+        ensures shorter { IfOk result (λ found. IfSome found (λ event.
+            length self.new.unread < length self.old.unread)) }
         ensures end { result ≡ Ok None → ReadsOn self.old self.new (Ok None) }
         ensures err { IfErr result (λ fault. ReadsOn self.old self.new (Err fault)) }
     {

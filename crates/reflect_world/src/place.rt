@@ -32,7 +32,12 @@ impl Model for Place {
 
     ghost Value = { Held };
 
-    ghost view = { λ p. record { session = p.session; looked = p.looked; written = p.written.items; unread = p.unread } };
+    ghost view = { λ p. record {
+      session = p.session;
+      looked = p.looked;
+      written = p.written.items;
+      unread = p.unread;
+    } };
 }
 
 impl Place {
@@ -49,9 +54,12 @@ impl Place {
     ) -> Result<Self, Fault>
         requires size { IsScreenSize width height }
         requires name { (1 ≤ length name.now) × (length name.now ≤ 255) }
-        ensures fresh { IfOk result (λ place. (place.looked ≡ None) × (place.written ≡ []) × (place.unread ≡ [])) }
+        ensures fresh { IfOk result (λ place.
+            (place.looked ≡ None) × (place.written ≡ []) × (place.unread ≡ [])) }
         ensures uncut { IfOk result (λ place. place.session.asked.last ≡ None) }
-        ensures stands { IfOk result (λ place. (s : Setup) → s.w ≡ width → s.h ≡ height → s.name ≡ name.now → s.runs ≡ runs → s.host ≡ None → s.zrle ≡ false → Stands s place.session (new_viewer role greet)) }
+        ensures stands { IfOk result (λ place. (s : Setup) → s.w ≡ width → s.h ≡ height
+            → s.name ≡ name.now → s.runs ≡ runs → s.host ≡ None → s.zrle ≡ false
+            → Stands s place.session (new_viewer role greet)) }
         ensures err { IfErr result (λ fault. fault ≡ Memory) }
     {
         let form = AnswerForm { runs, zrle: false };
@@ -108,7 +116,9 @@ impl Place {
         requires none { self.old.session.waiting ≡ None }
         requires room { vec_len lost.old < vec_capacity lost.old }
         ensures reads { ReadsMore self.old self.new lost.old.items lost.new.items }
-        ensures room { (vec_capacity lost.old ≤ vec_capacity lost.new) × (vec_len lost.new + length self.new.unread ≤ vec_len lost.old + length self.old.unread) }
+        ensures room { (vec_capacity lost.old ≤ vec_capacity lost.new)
+            × (vec_len lost.new + length self.new.unread
+            ≤ vec_len lost.old + length self.old.unread) }
         ensures shorter { length self.new.unread < length self.old.unread }
     {
         match self.session.feed_message(self.unread.bytes()) {
@@ -161,7 +171,8 @@ impl Place {
 
     /// The next input of a viewer that leaves, and `None` once there is none left.
     pub(crate) fn leave(&mut self) -> Option<Input>
-        ensures next { MatchOption result (left_by self.old ≡ []) (λ input. left_by self.old ≡ input_in input ∷ left_by self.new) }
+        ensures next { MatchOption result (left_by self.old ≡ [])
+            (λ input. left_by self.old ≡ input_in input ∷ left_by self.new) }
     {
         match self.session.take_input() {
             Some(input) => Some(input),
@@ -184,7 +195,8 @@ impl Place {
     /// never ends.
     pub(crate) fn cut(&mut self, screen: &mut PlainScreen)
         requires ready { is_some self.old.looked ≡ true → is_ready self.old.session ≡ true }
-        requires size { (self.old.session.width ≡ screen.old.width) × (self.old.session.height ≡ screen.old.height) }
+        requires size { (self.old.session.width ≡ screen.old.width)
+            × (self.old.session.height ≡ screen.old.height) }
         ensures goes_on { GoesOn self.old.looked self.old self.new screen.old.updates }
         ensures screen { screen.new ≡ screen.old }
     {
@@ -200,7 +212,8 @@ impl Place {
     /// Writes this many of its unsent bytes, or all of them where there are fewer, piece by piece. Where memory is
     /// refused (`Memory`) what was written before this call is kept, and the session can't be used any more.
     pub(crate) fn write(&mut self, count: u64) -> Result<(), Fault>
-        ensures ok { OnOk result (IsWritten self.old self.new (min count (length self.old.session.unsent))) }
+        ensures ok { OnOk result
+            (IsWritten self.old self.new (min count (length self.old.session.unsent))) }
         ensures err { IfErr result (λ fault. (fault ≡ Memory) × IsBrokenOff self.old self.new) }
     {
         let before = self.written.len();
@@ -221,7 +234,8 @@ impl Place {
     /// Writes bytes of the piece that is sent next, at most this many. Where memory is refused nothing has changed.
     fn write_piece(&mut self, most: u64) -> Result<u64, Fault>
         ensures ok { IfOk result (λ count. WritesSome self.old self.new count × (count ≤ most)) }
-        ensures some { IfOk result (λ count. 0 < most → 0 < length self.old.session.piece → 0 < count) }
+        ensures some { IfOk result (λ count.
+            0 < most → 0 < length self.old.session.piece → 0 < count) }
         ensures err { IfErr result (λ fault. (fault ≡ Memory) × (self.new ≡ self.old)) }
     {
         let piece = self.session.out();

@@ -46,7 +46,9 @@ impl Model for Relay {
       spare = vec_capacity r.entries - vec_len r.entries;
     } };
 
-    ghost invariant = { λ r. (r.taken ≤ length r.entries.items) × (r.sent.items ≡ spelled (inputs_told (take r.taken (map relayed_in r.entries.items)))) × KeepsStrokes r.strokes (take r.taken (map relayed_in r.entries.items)) };
+    ghost invariant = { λ r. (r.taken ≤ length r.entries.items)
+        × (r.sent.items ≡ spelled (inputs_told (take r.taken (map relayed_in r.entries.items))))
+        × KeepsStrokes r.strokes (take r.taken (map relayed_in r.entries.items)) };
 }
 
 impl Relay {
@@ -101,7 +103,8 @@ impl Relay {
     /// Adds an input of a viewer to the queue. There has to be room for it.
     pub(crate) fn push(&mut self, viewer: u64, input: Input)
         requires { 0 < self.old.spare }
-        ensures queue { self.new.queue ≡ self.old.queue ++ record { viewer = viewer; input = input_in input } ∷ [] }
+        ensures queue { self.new.queue
+            ≡ self.old.queue ++ record { viewer = viewer; input = input_in input } ∷ [] }
         ensures taken { self.new.taken ≡ self.old.taken }
         ensures spare { self.old.spare ≤ self.new.spare + 1 }
     {
@@ -134,9 +137,12 @@ impl Relay {
 /// Adds the spelling of an input of a viewer, where it passes after those taken before. Where memory is refused nothing
 /// has changed.
 fn tell(strokes: &mut Strokes, viewer: u64, input: &Input, out: &mut Vec<u8>) -> Result<(), Fault>
-    ensures ok { OnOk result ((taken : List Taken) → StrokesStand strokes.old taken → Tells taken (input_from viewer (input_in input.now)) strokes.new out.old.items out.new.items) }
+    ensures ok { OnOk result ((taken : List Taken) → StrokesStand strokes.old taken
+        → Tells taken (input_from viewer (input_in input.now)) strokes.new
+        out.old.items out.new.items) }
     ensures counts { length strokes.new.counts ≡ length strokes.old.counts }
-    ensures err { IfErr result (λ fault. (fault ≡ Memory) × (strokes.new ≡ strokes.old) × (out.new.items ≡ out.old.items)) }
+    ensures err { IfErr result (λ fault.
+        (fault ≡ Memory) × (strokes.new ≡ strokes.old) × (out.new.items ≡ out.old.items)) }
 {
     // The input is spelled first: once the strokes have it, no memory may be refused any longer.
     let before = out.len();

@@ -44,14 +44,23 @@ impl Model for Scene {
 
     ghost Value = { Standing };
 
-    ghost view = { λ s. record { screen = s.screen; host = s.host; host_fault = s.host_fault; places = s.places.items; room = s.room; relay = s.relay } };
+    ghost view = { λ s. record {
+      screen = s.screen;
+      host = s.host;
+      host_fault = s.host_fault;
+      places = s.places.items;
+      room = s.room;
+      relay = s.relay;
+    } };
 }
 
 impl Scene {
     /// The scene before any step. It fails where memory is refused (`Memory`).
     pub(crate) fn new(alloc: Global, width: u64, height: u64, room: u64) -> Result<Self, Fault>
         requires { IsScreenSize width height }
-        ensures ok { IfOk result (λ scene. (s : Setup) → s.w ≡ width → s.h ≡ height → s.room ≡ room → s.zrle ≡ false → Reached s scene beginning) }
+        ensures ok { IfOk result (λ scene.
+            (s : Setup) → s.w ≡ width → s.h ≡ height → s.room ≡ room → s.zrle ≡ false
+            → Reached s scene beginning) }
         ensures err { IfErr result (λ fault. fault ≡ Memory) }
     {
         let Ok(places) = free_places(alloc) else {
@@ -106,8 +115,10 @@ impl Scene {
         requires there { viewer < 65 }
         requires name { (1 ≤ length name.now) × (length name.now ≤ 255) }
         requires seen { IsSeen self.old }
-        ensures ok { OnOk result (JoinsUnder name.now runs (Join viewer role greet) self.old self.new) }
-        ensures shows { OnOk result (ShowsUnder name.now runs (Join viewer role greet) self.old self.new) }
+        ensures ok { OnOk result
+            (JoinsUnder name.now runs (Join viewer role greet) self.old self.new) }
+        ensures shows { OnOk result
+            (ShowsUnder name.now runs (Join viewer role greet) self.old self.new) }
         ensures err { IfErr result (λ fault. (fault ≡ Memory) × (self.new ≡ self.old)) }
     {
         let (width, height) = self.screen.size();
@@ -184,7 +195,8 @@ impl Scene {
         requires reachable { IsReachable self.old }
         requires unmarked { lost.old.items ≡ [] }
         ensures ok { OnOk result (TakesStep (step_with step.now lost.new.items) self.old self.new) }
-        ensures err { IfErr result (λ fault. IsRefusal (step_of step.now) self.old fault × Leaves self.old self.new fault) }
+        ensures err { IfErr result (λ fault.
+            IsRefusal (step_of step.now) self.old fault × Leaves self.old self.new fault) }
     {
         match step {
             Step::HostBytes(bytes) => self.host_bytes(bytes.as_slice()),
@@ -221,7 +233,8 @@ impl Scene {
     fn put_next(&mut self) -> Result<(), Fault>
         requires { IsReachable self.old }
         ensures ok { OnOk result (TakesStep Put self.old self.new) }
-        ensures err { IfErr result (λ fault. IsRefusal Put self.old fault × StaysFor self.old self.new) }
+        ensures err { IfErr result (λ fault.
+            IsRefusal Put self.old fault × StaysFor self.old self.new) }
     {
         match self.host.next_patch() {
             Ok(Some(patch)) => self.put(patch),
@@ -261,10 +274,13 @@ impl Scene {
     /// Puts an update. One that is refused waits for the next step that puts.
     fn put(&mut self, patch: Patch) -> Result<(), Fault>
         requires none { self.old.host.waiting ≡ None }
-        requires size { (patch.width ≡ self.old.screen.width) × (patch.height ≡ self.old.screen.height) }
-        requires host_size { (patch.width ≡ self.old.host.decoder.width) × (patch.height ≡ self.old.host.decoder.height) }
+        requires size { (patch.width ≡ self.old.screen.width)
+            × (patch.height ≡ self.old.screen.height) }
+        requires host_size { (patch.width ≡ self.old.host.decoder.width)
+            × (patch.height ≡ self.old.host.decoder.height) }
         ensures ok { OnOk result (IsPut self.old self.new patch.update) }
-        ensures err { IfErr result (λ fault. IsPutRefusal (length self.old.screen.updates) fault × IsUnread self.old self.new patch.update) }
+        ensures err { IfErr result (λ fault. IsPutRefusal (length self.old.screen.updates) fault
+            × IsUnread self.old self.new patch.update) }
     {
         match self.screen.put(patch) {
             Ok(_) => Ok(()),
@@ -286,7 +302,8 @@ impl Scene {
     fn feed(&mut self, viewer: u64, bytes: &[u8], lost: &mut Vec<bool>) -> Result<(), Fault>
         requires reachable { IsReachable self.old }
         requires unmarked { lost.old.items ≡ [] }
-        ensures ok { OnOk result (TakesStep (Bytes viewer bytes.now lost.new.items) self.old self.new) }
+        ensures ok { OnOk result
+            (TakesStep (Bytes viewer bytes.now lost.new.items) self.old self.new) }
         ensures err { IfErr result (λ fault. (fault ≡ Memory) × StaysSeen self.old self.new) }
     {
         if viewer < PLACES {
@@ -371,7 +388,8 @@ impl Scene {
 /// taken before.
 fn relay_left(viewer: u64, place: &mut Place, room: u64, relay: &mut Relay)
     requires { length (left_by place.old) ≤ relay.old.spare }
-    ensures queue { relay.new.queue ≡ relay.old.queue ++ take (room - length relay.old.queue) (relayed_of viewer (left_by place.old)) }
+    ensures queue { relay.new.queue ≡ relay.old.queue
+        ++ take (room - length relay.old.queue) (relayed_of viewer (left_by place.old)) }
     ensures taken { relay.new.taken ≡ relay.old.taken }
 {
     while relay.len() < room {

@@ -52,7 +52,8 @@ impl Step {
     /// A copy of the step, with bytes of its own. It fails where memory is refused.
     pub fn copy(&self, alloc: Global) -> Result<Step, AllocError>
         ensures same { IfOk result (λ same. step_of same ≡ step_of self.now) }
-        ensures marked { IfOk result (λ same. (lost : List Bool) → step_with same lost ≡ step_with self.now lost) }
+        ensures marked { IfOk result (λ same.
+            (lost : List Bool) → step_with same lost ≡ step_with self.now lost) }
     {
         Ok(match self {
             Step::HostBytes(bytes) => Step::HostBytes(Vec::from_slice(alloc, bytes.as_slice())?),

@@ -72,7 +72,15 @@ impl World {
         requires size { IsScreenSize width height }
         requires name { (1 ≤ length name.now) × (length name.now ≤ 255) }
         requires room { room ≤ 2 ^ 62 }
-        ensures ok { IfOk result (λ world. world ≡ record { width = width; height = height; name = name.now; room = room; runs = runs; steps = []; is_refused = false }) }
+        ensures ok { IfOk result (λ world. world ≡ record {
+          width = width;
+          height = height;
+          name = name.now;
+          room = room;
+          runs = runs;
+          steps = [];
+          is_refused = false;
+        }) }
         ensures err { IfErr result (λ fault. fault ≡ Memory) }
     {
         let Ok(name) = Vec::from_slice(alloc, name) else {
@@ -194,7 +202,8 @@ impl World {
 
     /// Whether an input of a viewer waits for `Send`. Where a step was refused for want of memory this says nothing.
     pub fn is_waiting(&self, viewer: u64) -> bool
-        ensures { self.now.is_refused ≡ false → result ≡ has_waiting ((world_of self.now).viewers viewer) }
+        ensures { self.now.is_refused ≡ false
+            → result ≡ has_waiting ((world_of self.now).viewers viewer) }
     {
         self.scene.is_waiting(viewer)
     }
@@ -202,7 +211,8 @@ impl World {
     /// Whether there is room for a further input in the queue to the host. Where a step was refused for want of memory
     /// this says nothing.
     pub fn has_room(&self) -> bool
-        ensures { self.now.is_refused ≡ false → result ≡ nat_lt (length (world_of self.now).queue) self.now.room }
+        ensures { self.now.is_refused ≡ false
+            → result ≡ nat_lt (length (world_of self.now).queue) self.now.room }
     {
         self.scene.has_room()
     }
@@ -217,7 +227,8 @@ impl World {
     /// Takes one step, for whose entry and marks there is room first.
     fn step(&mut self, step: &Step) -> Result<(), Fault>
         requires { self.old.is_refused ≡ false }
-        ensures ok { OnOk result ((e : played.Step) × (unmarked e ≡ step_of step.now) × (self.new ≡ with_steps self.old (e ∷ []))) }
+        ensures ok { OnOk result ((e : played.Step) × (unmarked e ≡ step_of step.now)
+            × (self.new ≡ with_steps self.old (e ∷ []))) }
         ensures err { IfErr result (StopsAt self.old self.new (step_of step.now)) }
     {
         let Ok(copy) = step.copy(self.alloc) else {
@@ -254,7 +265,8 @@ impl World {
 /// stream of its answers, from which a viewer reads exactly these answers.
 pub fn play(world: &mut World, steps: &[Step]) -> Result<(), (usize, Fault)>
     ensures ok { OnOk result (HasPlayed world.old world.new (map step_of steps.now)) }
-    ensures err { IfErr result (λ stop. HasStopped world.old world.new (map step_of steps.now) stop.0 stop.1) }
+    ensures err { IfErr result (λ stop.
+        HasStopped world.old world.new (map step_of steps.now) stop.0 stop.1) }
     ensures faithful { IsFaithful world.new }
 {
     if world.is_refused {

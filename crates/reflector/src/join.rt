@@ -36,10 +36,28 @@ where
     D: Door,
     R: Threads + Wait + Drop,
     ensures sender { IsSameSender handle.promise.sender.value result.sender }
-    ensures view { handle.promise.role ≡ View → inputs_of result.sender ≡ inputs_of handle.promise.sender.value }
+    ensures view { handle.promise.role ≡ View
+        → inputs_of result.sender ≡ inputs_of handle.promise.sender.value }
     ensures list { Begins (puts_of publisher.now.changes) result.watcher.updates }
-    ensures promise { (last : Shared) × Begins last.updates result.watcher.updates × ((result.watcher.updates ≡ last.updates) ⊎ (result.watcher.updates ≡ puts_of publisher.now.changes)) × HasVisits D.lets_in D.sees_off (λ source_old source_new sent_old sent_new why left. IsServedWhole result.watcher.updates (setup_of handle.promise.width handle.promise.height handle.promise.name.value.items handle.promise.form handle.promise.host) handle.promise.role sent_old sent_new left) (at handle.promise.door.value handle.promise.watcher.value (inputs_of handle.promise.sender.value)) (at result.door last (inputs_of result.sender)) }
-    ensures shown { (last : Shared) × Begins last.updates result.watcher.updates × HasVisits D.lets_in D.sees_off (λ source_old source_new sent_old sent_new why left. IsReceived (λ a n b. Reaches a (step.Look n ∷ []) b) (λ a n b. (n ≡ length b.updates) × Reaches a (step.Cut (view b.updates) ∷ []) b) (Unit {0}) ⊤ (λ fault. (fault ≡ QueueFull) ⊎ (fault ≡ NumbersOut)) (λ w. w.updates) (setup_of handle.promise.width handle.promise.height handle.promise.name.value.items handle.promise.form handle.promise.host) handle.promise.role source_old source_new sent_old sent_new why left) (at handle.promise.door.value handle.promise.watcher.value (inputs_of handle.promise.sender.value)) (at result.door last (inputs_of result.sender)) }
+    ensures promise { (last : Shared) × Begins last.updates result.watcher.updates
+        × ((result.watcher.updates ≡ last.updates)
+        ⊎ (result.watcher.updates ≡ puts_of publisher.now.changes))
+        × HasVisits D.lets_in D.sees_off (λ source_old source_new sent_old sent_new why left.
+        IsServedWhole result.watcher.updates
+        (setup_of handle.promise.width handle.promise.height handle.promise.name.value.items
+        handle.promise.form handle.promise.host) handle.promise.role sent_old sent_new left)
+        (at handle.promise.door.value handle.promise.watcher.value
+        (inputs_of handle.promise.sender.value)) (at result.door last (inputs_of result.sender)) }
+    ensures shown { (last : Shared) × Begins last.updates result.watcher.updates
+        × HasVisits D.lets_in D.sees_off (λ source_old source_new sent_old sent_new why left.
+        IsReceived (λ a n b. Reaches a (step.Look n ∷ []) b)
+        (λ a n b. (n ≡ length b.updates) × Reaches a (step.Cut (view b.updates) ∷ []) b)
+        (Unit {0}) ⊤ (λ fault. (fault ≡ QueueFull) ⊎ (fault ≡ NumbersOut)) (λ w. w.updates)
+        (setup_of handle.promise.width handle.promise.height
+        handle.promise.name.value.items handle.promise.form handle.promise.host)
+        handle.promise.role source_old source_new sent_old sent_new why left)
+        (at handle.promise.door.value handle.promise.watcher.value
+        (inputs_of handle.promise.sender.value)) (at result.door last (inputs_of result.sender)) }
 {
     let Place {
         door,

@@ -73,7 +73,18 @@ impl<S: ScreenSource, D: Door, R: Wait + Drop> Promise<Place<S, D, R>> for OfPla
     ghost use Rattle.reflector.specs.Promise.{KeepsPromise};
     ghost use Rattle.reflector.specs.Visits.{HasVisits, IsReceived, at, setup_of};
 
-    ghost kept_by = { λ promise place. IsSameSender promise.sender.value place.sender × HasVisits D.lets_in D.sees_off (λ source_old source_new sent_old sent_new why left. IsReceived S.looks S.cuts S.may_end ⊤ (λ fault. (fault ≡ QueueFull) ⊎ (fault ≡ NumbersOut)) S.known (setup_of promise.width promise.height promise.name.value.items promise.form promise.host) promise.role source_old source_new sent_old sent_new why left) (at promise.door.value promise.watcher.value (inputs_of promise.sender.value)) (at place.door place.watcher (inputs_of place.sender)) × KeepsPromise D.lets_in D.sees_off S.known (setup_of promise.width promise.height promise.name.value.items promise.form promise.host) promise.role (at promise.door.value promise.watcher.value (inputs_of promise.sender.value)) (at place.door place.watcher (inputs_of place.sender)) };
+    ghost kept_by = { λ promise place. IsSameSender promise.sender.value place.sender
+        × HasVisits D.lets_in D.sees_off (λ source_old source_new sent_old sent_new why left.
+        IsReceived S.looks S.cuts S.may_end ⊤
+        (λ fault. (fault ≡ QueueFull) ⊎ (fault ≡ NumbersOut)) S.known
+        (setup_of promise.width promise.height promise.name.value.items promise.form promise.host)
+        promise.role source_old source_new sent_old sent_new why left)
+        (at promise.door.value promise.watcher.value (inputs_of promise.sender.value))
+        (at place.door place.watcher (inputs_of place.sender))
+        × KeepsPromise D.lets_in D.sees_off S.known
+        (setup_of promise.width promise.height promise.name.value.items promise.form promise.host)
+        promise.role (at promise.door.value promise.watcher.value (inputs_of promise.sender.value))
+        (at place.door place.watcher (inputs_of place.sender)) };
 }
 
 /// The thread of a place.
@@ -106,7 +117,13 @@ where
     T: Drop,
     Z: Rest,
     R: Wait,
-    ensures { HasVisits D.lets_in D.sees_off (λ source_old source_new sent_old sent_new why left. IsReceived S.looks S.cuts S.may_end (F.was_set place.entry.stop.now) K.may_refuse S.known (setup_of place.entry.maker.now.width place.entry.maker.now.height place.entry.maker.now.name.items place.entry.maker.now.form place.entry.maker.now.host) place.entry.maker.now.role source_old source_new sent_old sent_new why left) (at place.entry.door place.entry.source (K.sent place.entry.sink)) (at result.door result.source (K.sent result.sink)) }
+    ensures { HasVisits D.lets_in D.sees_off (λ source_old source_new sent_old sent_new why left.
+        IsReceived S.looks S.cuts S.may_end (F.was_set place.entry.stop.now) K.may_refuse S.known
+        (setup_of place.entry.maker.now.width place.entry.maker.now.height
+        place.entry.maker.now.name.items place.entry.maker.now.form place.entry.maker.now.host)
+        place.entry.maker.now.role source_old source_new sent_old sent_new why left)
+        (at place.entry.door place.entry.source (K.sent place.entry.sink))
+        (at result.door result.source (K.sent result.sink)) }
 {
     let mut free = place;
     for _ in rt.forever() {
@@ -151,7 +168,13 @@ fn serve_from<
     requires screen { (s : S) → (S.width s ≡ maker.now.width) × (S.height s ≡ maker.now.height) }
     requires named { (relay_of sender ≡ T.relay) × (place_of sender ≡ T.place) }
     ensures named { (relay_of result.1 ≡ T.relay) × (place_of result.1 ≡ T.place) }
-    ensures visits { HasVisits D.lets_in D.sees_off (λ source_old source_new sent_old sent_new why left. IsReceived S.looks S.cuts S.may_end (F.was_set stop.now) (λ fault. (fault ≡ QueueFull) ⊎ (fault ≡ NumbersOut)) S.known (setup_of maker.now.width maker.now.height maker.now.name.items maker.now.form maker.now.host) maker.now.role source_old source_new sent_old sent_new why left) (at door source (inputs_of sender)) (at result.0 result.2 (inputs_of result.1)) }
+    ensures visits { HasVisits D.lets_in D.sees_off
+        (λ source_old source_new sent_old sent_new why left.
+        IsReceived S.looks S.cuts S.may_end (F.was_set stop.now)
+        (λ fault. (fault ≡ QueueFull) ⊎ (fault ≡ NumbersOut)) S.known
+        (setup_of maker.now.width maker.now.height maker.now.name.items maker.now.form
+        maker.now.host) maker.now.role source_old source_new sent_old sent_new why left)
+        (at door source (inputs_of sender)) (at result.0 result.2 (inputs_of result.1)) }
 {
     let inner: Seated<T, R> = Seated::new(sender);
     let sink = Ringing { inner, alarm };
@@ -175,7 +198,13 @@ fn show_viewers<S: ScreenSource, D: Door, F: StopFlag, Z: Rest, Q: Wait + Drop, 
 ) -> (D, S)
     requires screen { (s : S) → (S.width s ≡ maker.now.width) × (S.height s ≡ maker.now.height) }
     requires role { maker.now.role ≡ View }
-    ensures { HasVisits D.lets_in D.sees_off (λ source_old source_new sent_old sent_new why left. IsReceived S.looks S.cuts S.may_end (F.was_set stop.now) (λ fault. (fault ≡ QueueFull) ⊎ (fault ≡ NumbersOut)) S.known (setup_of maker.now.width maker.now.height maker.now.name.items maker.now.form maker.now.host) maker.now.role source_old source_new sent_old sent_new why left) (at door source (inputs_of sink.of.value)) (at result.0 result.1 (inputs_of sink.of.value)) }
+    ensures { HasVisits D.lets_in D.sees_off (λ source_old source_new sent_old sent_new why left.
+        IsReceived S.looks S.cuts S.may_end (F.was_set stop.now)
+        (λ fault. (fault ≡ QueueFull) ⊎ (fault ≡ NumbersOut)) S.known
+        (setup_of maker.now.width maker.now.height maker.now.name.items maker.now.form
+        maker.now.host) maker.now.role source_old source_new sent_old sent_new why left)
+        (at door source (inputs_of sink.of.value))
+        (at result.0 result.1 (inputs_of sink.of.value)) }
 {
     let first = PlaceBeginning::of(&door, &source, &sink);
     let place = FreePlace::new(&first, maker, stop, door, source, sink);
@@ -196,8 +225,17 @@ fn keep<S: ScreenSource, D: Door, W: Alarm + Drop, F: StopFlag, R: Wait + Clock 
 ) -> Place<S, D, R>
     requires { (s : S) → (S.width s ≡ maker.width) × (S.height s ≡ maker.height) }
     ensures sender { IsSameSender sender result.sender }
-    ensures visits { HasVisits D.lets_in D.sees_off (λ source_old source_new sent_old sent_new why left. IsReceived S.looks S.cuts S.may_end (F.was_set stop.now) (λ fault. (fault ≡ QueueFull) ⊎ (fault ≡ NumbersOut)) S.known (setup_of maker.width maker.height maker.name.items maker.form maker.host) maker.role source_old source_new sent_old sent_new why left) (at door watcher (inputs_of sender)) (at result.door result.watcher (inputs_of result.sender)) }
-    ensures promise { KeepsPromise D.lets_in D.sees_off S.known (setup_of maker.width maker.height maker.name.items maker.form maker.host) maker.role (at door watcher (inputs_of sender)) (at result.door result.watcher (inputs_of result.sender)) }
+    ensures visits { HasVisits D.lets_in D.sees_off
+        (λ source_old source_new sent_old sent_new why left.
+        IsReceived S.looks S.cuts S.may_end (F.was_set stop.now)
+        (λ fault. (fault ≡ QueueFull) ⊎ (fault ≡ NumbersOut)) S.known
+        (setup_of maker.width maker.height maker.name.items maker.form maker.host) maker.role
+        source_old source_new sent_old sent_new why left) (at door watcher (inputs_of sender))
+        (at result.door result.watcher (inputs_of result.sender)) }
+    ensures promise { KeepsPromise D.lets_in D.sees_off S.known
+        (setup_of maker.width maker.height maker.name.items maker.form maker.host)
+        maker.role (at door watcher (inputs_of sender))
+        (at result.door result.watcher (inputs_of result.sender)) }
 {
     let rest = Nap { clock: rt };
     match maker.role {
@@ -239,8 +277,12 @@ where
     W: Alarm + Drop + Send + Sync + 'static,
     R: Threads + Wait + Clock + Copy + Drop + Send + 'static,
     requires { (s : S) → (S.width s ≡ maker.width) × (S.height s ≡ maker.height) }
-    ensures maker { IfOk result (λ handle. (handle.promise.role ≡ maker.role) × (handle.promise.width ≡ maker.width) × (handle.promise.height ≡ maker.height) × (handle.promise.name.value.items ≡ maker.name.items) × (handle.promise.form ≡ maker.form) × (handle.promise.host ≡ maker.host)) }
-    ensures ends { IfOk result (λ handle. (handle.promise.door.value ≡ door) × (handle.promise.watcher.value ≡ watcher) × (handle.promise.sender.value ≡ sender)) }
+    ensures maker { IfOk result (λ handle. (handle.promise.role ≡ maker.role)
+        × (handle.promise.width ≡ maker.width) × (handle.promise.height ≡ maker.height)
+        × (handle.promise.name.value.items ≡ maker.name.items) × (handle.promise.form ≡ maker.form)
+        × (handle.promise.host ≡ maker.host)) }
+    ensures ends { IfOk result (λ handle. (handle.promise.door.value ≡ door)
+        × (handle.promise.watcher.value ≡ watcher) × (handle.promise.sender.value ≡ sender)) }
     ensures err { IfErr result (λ fault. fault ≡ Memory) }
 {
     let rt = context.rt;
@@ -263,8 +305,18 @@ where
         move || -> Place<S, D, R>
             requires { (s : S) → (S.width s ≡ maker.width) × (S.height s ≡ maker.height) }
             ensures sender { IsSameSender sender result.sender }
-            ensures visits { HasVisits D.lets_in D.sees_off (λ source_old source_new sent_old sent_new why left. IsReceived S.looks S.cuts S.may_end ⊤ (λ fault. (fault ≡ QueueFull) ⊎ (fault ≡ NumbersOut)) S.known (setup_of maker.width maker.height maker.name.items maker.form maker.host) maker.role source_old source_new sent_old sent_new why left) (at door watcher (inputs_of sender)) (at result.door result.watcher (inputs_of result.sender)) }
-            ensures promise { KeepsPromise D.lets_in D.sees_off S.known (setup_of maker.width maker.height maker.name.items maker.form maker.host) maker.role (at door watcher (inputs_of sender)) (at result.door result.watcher (inputs_of result.sender)) }
+            ensures visits { HasVisits D.lets_in D.sees_off
+                (λ source_old source_new sent_old sent_new why left.
+                IsReceived S.looks S.cuts S.may_end ⊤
+                (λ fault. (fault ≡ QueueFull) ⊎ (fault ≡ NumbersOut)) S.known
+                (setup_of maker.width maker.height maker.name.items maker.form maker.host)
+                maker.role source_old source_new sent_old sent_new why left)
+                (at door watcher (inputs_of sender))
+                (at result.door result.watcher (inputs_of result.sender)) }
+            ensures promise { KeepsPromise D.lets_in D.sees_off S.known
+                (setup_of maker.width maker.height maker.name.items maker.form maker.host)
+                maker.role (at door watcher (inputs_of sender))
+                (at result.door result.watcher (inputs_of result.sender)) }
         { keep(rt, maker, door, watcher, sender, alarm, &*stop) },
     );
     match started {

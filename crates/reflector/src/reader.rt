@@ -46,7 +46,12 @@ impl<L: Link, H: Hosts<L>, P: Puts + Drop> Promise<HostsRead<L, H, P>> for OfHos
     ghost use Rattle.std.specs.Prelude.{◌≡◌, true, None, map};
     ghost use Rattle.host_turns.specs.Running.{HasRun, IsComing, IsOver, came_over, goes_on};
 
-    ghost kept_by = { λ promise read. HasRun promise.width promise.height promise.password (IsComing L.state H.came) read.last (came_over promise.has_called (L.state promise.link.value)) (map L.state read.links.items) (P.updates promise.publisher.value) (P.updates read.publisher) × IsOver H.are_out read.hosts read.last × (goes_on read.last ≡ true → H.again promise.hosts.value ≡ None) };
+    ghost kept_by = { λ promise read.
+        HasRun promise.width promise.height promise.password (IsComing L.state H.came) read.last
+        (came_over promise.has_called (L.state promise.link.value)) (map L.state read.links.items)
+        (P.updates promise.publisher.value) (P.updates read.publisher)
+        × IsOver H.are_out read.hosts read.last
+        × (goes_on read.last ≡ true → H.again promise.hosts.value ≡ None) };
 }
 
 /// The thread that reads the hosts.
@@ -73,11 +78,16 @@ fn read<L: Link, H: Hosts<L>, P: Puts + Drop, B: Alarm + Drop, W: Alarm + Drop, 
     handover: &Handover<L, W>,
 ) -> HostsRead<L, H, P>
     requires room { (begun.links.items ≡ []) × (0 < vec_capacity begun.links) }
-    requires size { (begun.screen.decoder.width ≡ begun.run_screen.width) × (begun.screen.decoder.height ≡ begun.run_screen.height) }
-    requires begins { Decodes begun.screen.decoder begun.screen.painter opening (host_message begun.run_screen.width begun.run_screen.height) }
+    requires size { (begun.screen.decoder.width ≡ begun.run_screen.width)
+        × (begun.screen.decoder.height ≡ begun.run_screen.height) }
+    requires begins { Decodes begun.screen.decoder begun.screen.painter opening
+        (host_message begun.run_screen.width begun.run_screen.height) }
     requires pair { IsFor begun.screen.decoder begun.screen.painter }
-    requires publisher { (P.width publisher ≡ begun.run_screen.width) × (P.height publisher ≡ begun.run_screen.height) }
-    ensures run { HasRun begun.run_screen.width begun.run_screen.height begun.run_screen.password (IsComing L.state H.came) result.last (came_over begun.has_called (L.state begun.link)) (map L.state result.links.items) (P.updates publisher) (P.updates result.publisher) }
+    requires publisher { (P.width publisher ≡ begun.run_screen.width)
+        × (P.height publisher ≡ begun.run_screen.height) }
+    ensures run { HasRun begun.run_screen.width begun.run_screen.height begun.run_screen.password
+        (IsComing L.state H.came) result.last (came_over begun.has_called (L.state begun.link))
+        (map L.state result.links.items) (P.updates publisher) (P.updates result.publisher) }
     ensures over { IsOver H.are_out result.hosts result.last }
     ensures never { goes_on result.last ≡ true → H.again hosts ≡ None }
 {
@@ -134,7 +144,11 @@ where
     W: Alarm + Drop + Send + Sync + 'static,
     R: Threads + Wait + Copy + Drop + Send + 'static,
     requires { (P.width publisher ≡ run_screen.width) × (P.height publisher ≡ run_screen.height) }
-    ensures of { IfOk result (λ handle. (handle.promise.width ≡ run_screen.width) × (handle.promise.height ≡ run_screen.height) × (handle.promise.password ≡ run_screen.password) × (handle.promise.has_called ≡ has_called) × (handle.promise.link.value ≡ link) × (handle.promise.publisher.value ≡ publisher) × (handle.promise.hosts.value ≡ hosts)) }
+    ensures of { IfOk result (λ handle.
+        (handle.promise.width ≡ run_screen.width) × (handle.promise.height ≡ run_screen.height)
+        × (handle.promise.password ≡ run_screen.password) × (handle.promise.has_called ≡ has_called)
+        × (handle.promise.link.value ≡ link) × (handle.promise.publisher.value ≡ publisher)
+        × (handle.promise.hosts.value ≡ hosts)) }
     ensures err { IfErr result (λ fault. fault ≡ Memory) }
 {
     let promise = OfHosts {
@@ -158,10 +172,13 @@ where
         promise,
         move ||
             requires room { (begun.links.items ≡ []) × (0 < vec_capacity begun.links) }
-            requires size { (begun.screen.decoder.width ≡ begun.run_screen.width) × (begun.screen.decoder.height ≡ begun.run_screen.height) }
-            requires begins { Decodes begun.screen.decoder begun.screen.painter opening (host_message begun.run_screen.width begun.run_screen.height) }
+            requires size { (begun.screen.decoder.width ≡ begun.run_screen.width)
+                × (begun.screen.decoder.height ≡ begun.run_screen.height) }
+            requires begins { Decodes begun.screen.decoder begun.screen.painter opening
+                (host_message begun.run_screen.width begun.run_screen.height) }
             requires pair { IsFor begun.screen.decoder begun.screen.painter }
-            requires publisher { (P.width publisher ≡ begun.run_screen.width) × (P.height publisher ≡ begun.run_screen.height) }
+            requires publisher { (P.width publisher ≡ begun.run_screen.width)
+                × (P.height publisher ≡ begun.run_screen.height) }
         { read(&rt, begun, hosts, publisher, alarm, &*handover) },
     );
     match started {

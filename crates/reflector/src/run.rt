@@ -114,10 +114,16 @@ where
     requires size { IsScreenSize screen.now.w screen.now.h }
     requires screen { (s : S) → (S.width s ≡ screen.now.w) × (S.height s ≡ screen.now.h) }
     requires count { (vec_len doors ≡ vec_len senders) × (vec_len watchers ≡ vec_len senders) }
-    ensures of { IfOk result (λ places. map (λ place. place.promise.sender.value) places.items ≡ senders.items) }
-    ensures doors { IfOk result (λ places. map (λ place. (place.promise.role, place.promise.door.value)) places.items ≡ doors.items) }
-    ensures watchers { IfOk result (λ places. map (λ place. place.promise.watcher.value) places.items ≡ watchers.items) }
-    ensures screen { IfOk result (λ places. All (λ place. IsOfScreen screen.now.w screen.now.h screen.now.name context.now.form context.now.host place.promise.width place.promise.height place.promise.name.value.items place.promise.form place.promise.host) places.items) }
+    ensures of { IfOk result (λ places.
+        map (λ place. place.promise.sender.value) places.items ≡ senders.items) }
+    ensures doors { IfOk result (λ places.
+        map (λ place. (place.promise.role, place.promise.door.value)) places.items ≡ doors.items) }
+    ensures watchers { IfOk result (λ places.
+        map (λ place. place.promise.watcher.value) places.items ≡ watchers.items) }
+    ensures screen { IfOk result (λ places. All (λ place.
+        IsOfScreen screen.now.w screen.now.h screen.now.name context.now.form context.now.host
+        place.promise.width place.promise.height place.promise.name.value.items
+        place.promise.form place.promise.host) places.items) }
     ensures err { IfErr result (λ fault. fault ≡ Memory) }
 {
     let mut places = Vec::new(context.alloc);
@@ -168,12 +174,28 @@ where
     requires publisher { (P.width publisher ≡ screen.now.w) × (P.height publisher ≡ screen.now.h) }
     requires screen { (s : S) → (S.width s ≡ screen.now.w) × (S.height s ≡ screen.now.h) }
     requires count { (vec_len doors ≡ vec_len senders) × (vec_len watchers ≡ vec_len senders + 1) }
-    ensures places { IfOk result (λ started. map (λ place. place.promise.sender.value) started.places.items ≡ senders.items) }
-    ensures doors { IfOk result (λ started. map (λ place. (place.promise.role, place.promise.door.value)) started.places.items ≡ doors.items) }
-    ensures watchers { IfOk result (λ started. map (λ place. place.promise.watcher.value) started.places.items ≡ drop 1 watchers.items) }
-    ensures screen { IfOk result (λ started. All (λ place. IsOfScreen screen.now.w screen.now.h screen.now.name context.now.form context.now.host place.promise.width place.promise.height place.promise.name.value.items place.promise.form place.promise.host) started.places.items) }
-    ensures writer { IfOk result (λ started. (started.writer.promise.taker.value ≡ taker) × (started.writer.promise.source.value ≡ slice_index_or watchers.items 0 started.writer.promise.source.value) × StrokesStand started.writer.promise.strokes.value []) }
-    ensures reader { IfOk result (λ started. (started.reader.promise.width ≡ screen.now.w) × (started.reader.promise.height ≡ screen.now.h) × (started.reader.promise.password ≡ context.now.password) × (started.reader.promise.has_called ≡ has_called) × (started.reader.promise.link.value ≡ first) × (started.reader.promise.publisher.value ≡ publisher) × (started.reader.promise.hosts.value ≡ hosts)) }
+    ensures places { IfOk result (λ started.
+        map (λ place. place.promise.sender.value) started.places.items ≡ senders.items) }
+    ensures doors { IfOk result (λ started.
+        map (λ place. (place.promise.role, place.promise.door.value)) started.places.items
+        ≡ doors.items) }
+    ensures watchers { IfOk result (λ started.
+        map (λ place. place.promise.watcher.value) started.places.items ≡ drop 1 watchers.items) }
+    ensures screen { IfOk result (λ started. All (λ place.
+        IsOfScreen screen.now.w screen.now.h screen.now.name context.now.form context.now.host
+        place.promise.width place.promise.height place.promise.name.value.items
+        place.promise.form place.promise.host) started.places.items) }
+    ensures writer { IfOk result (λ started. (started.writer.promise.taker.value ≡ taker)
+        × (started.writer.promise.source.value
+        ≡ slice_index_or watchers.items 0 started.writer.promise.source.value)
+        × StrokesStand started.writer.promise.strokes.value []) }
+    ensures reader { IfOk result (λ started. (started.reader.promise.width ≡ screen.now.w)
+        × (started.reader.promise.height ≡ screen.now.h)
+        × (started.reader.promise.password ≡ context.now.password)
+        × (started.reader.promise.has_called ≡ has_called)
+        × (started.reader.promise.link.value ≡ first)
+        × (started.reader.promise.publisher.value ≡ publisher)
+        × (started.reader.promise.hosts.value ≡ hosts)) }
     ensures err { IfErr result (λ fault. fault ≡ Memory) }
 {
     let watcher = watchers.remove(0);
@@ -212,12 +234,20 @@ where
     B: Alarm + Drop,
     W: Alarm + Drop,
     R: Threads + Wait + Drop,
-    ensures run { HasRun started.reader.promise.width started.reader.promise.height started.reader.promise.password (IsComing L.state H.came) result.last (came_over started.reader.promise.has_called (L.state started.reader.promise.link.value)) (map L.state result.links.items) (P.updates started.reader.promise.publisher.value) (P.updates result.publisher) }
+    ensures run { HasRun started.reader.promise.width started.reader.promise.height
+        started.reader.promise.password (IsComing L.state H.came) result.last
+        (came_over started.reader.promise.has_called (L.state started.reader.promise.link.value))
+        (map L.state result.links.items)
+        (P.updates started.reader.promise.publisher.value) (P.updates result.publisher) }
     ensures over { IsOver H.are_out result.hosts result.last }
     ensures never { goes_on result.last ≡ true → H.again started.reader.promise.hosts.value ≡ None }
     ensures taker { host_of result.taker ≡ host_of started.writer.promise.taker.value }
-    ensures counted { IsCounted (taken_of started.writer.promise.taker.value) started.writer.promise.strokes.value 0 → IsCounted (taken_of result.taker) result.strokes result.dropped }
-    ensures told { HasTold S.looks S.width S.height (desk [] started.writer.promise.source.value (taken_of started.writer.promise.taker.value) started.writer.promise.strokes.value) (links_in L.state result.written) (taken_of result.taker) result.strokes }
+    ensures counted { IsCounted (taken_of started.writer.promise.taker.value)
+        started.writer.promise.strokes.value 0
+        → IsCounted (taken_of result.taker) result.strokes result.dropped }
+    ensures told { HasTold S.looks S.width S.height (desk [] started.writer.promise.source.value
+        (taken_of started.writer.promise.taker.value) started.writer.promise.strokes.value)
+        (links_in L.state result.written) (taken_of result.taker) result.strokes }
     ensures places { result.places ≡ started.places }
 {
     let Started {
@@ -296,18 +326,33 @@ where
     requires size { IsScreenSize screen.now.w screen.now.h }
     requires publisher { (P.width publisher ≡ screen.now.w) × (P.height publisher ≡ screen.now.h) }
     requires screen { (s : S) → (S.width s ≡ screen.now.w) × (S.height s ≡ screen.now.h) }
-    requires doors { (1 ≤ vec_len doors) × (vec_len doors ≤ 65) × (vec_len watchers ≡ vec_len doors + 1) }
+    requires doors { (1 ≤ vec_len doors) × (vec_len doors ≤ 65)
+        × (vec_len watchers ≡ vec_len doors + 1) }
     requires writer { L.state ends.writer ≡ unused }
-    ensures run { IfOk result (λ run. HasRun screen.now.w screen.now.h context.now.password (IsComing L.state H.came) run.last (came_over ends.has_called (L.state ends.reader)) (map L.state run.links.items) (P.updates publisher) (P.updates run.publisher)) }
+    ensures run { IfOk result (λ run. HasRun screen.now.w screen.now.h context.now.password
+        (IsComing L.state H.came) run.last (came_over ends.has_called (L.state ends.reader))
+        (map L.state run.links.items) (P.updates publisher) (P.updates run.publisher)) }
     ensures over { IfOk result (λ run. IsOver H.are_out run.hosts run.last) }
     ensures never { IfOk result (λ run. goes_on run.last ≡ true → H.again hosts ≡ None) }
-    ensures places { IfOk result (λ run. map (λ place. strand_of place.promise.sender.value) run.places.items ≡ fresh (vec_len doors)) }
-    ensures relay { IfOk result (λ run. All (λ place. relay_of place.promise.sender.value ≡ host_of run.taker) run.places.items) }
+    ensures places { IfOk result (λ run.
+        map (λ place. strand_of place.promise.sender.value) run.places.items
+        ≡ fresh (vec_len doors)) }
+    ensures relay { IfOk result (λ run.
+        All (λ place. relay_of place.promise.sender.value ≡ host_of run.taker) run.places.items) }
     ensures counted { IfOk result (λ run. IsCounted (taken_of run.taker) run.strokes run.dropped) }
-    ensures told { IfOk result (λ run. (source : S) × (source ≡ slice_index_or watchers.items 0 source) × TellsHosts S.looks S.width S.height source (links_in L.state run.written) (taken_of run.taker) run.strokes) }
-    ensures doors { IfOk result (λ run. map (λ place. (place.promise.role, place.promise.door.value)) run.places.items ≡ doors.items) }
-    ensures watchers { IfOk result (λ run. map (λ place. place.promise.watcher.value) run.places.items ≡ drop 1 watchers.items) }
-    ensures screen { IfOk result (λ run. All (λ place. IsOfScreen screen.now.w screen.now.h screen.now.name context.now.form context.now.host place.promise.width place.promise.height place.promise.name.value.items place.promise.form place.promise.host) run.places.items) }
+    ensures told { IfOk result (λ run.
+        (source : S) × (source ≡ slice_index_or watchers.items 0 source)
+        × TellsHosts S.looks S.width S.height source (links_in L.state run.written)
+        (taken_of run.taker) run.strokes) }
+    ensures doors { IfOk result (λ run.
+        map (λ place. (place.promise.role, place.promise.door.value)) run.places.items
+        ≡ doors.items) }
+    ensures watchers { IfOk result (λ run.
+        map (λ place. place.promise.watcher.value) run.places.items ≡ drop 1 watchers.items) }
+    ensures screen { IfOk result (λ run. All (λ place.
+        IsOfScreen screen.now.w screen.now.h screen.now.name context.now.form context.now.host
+        place.promise.width place.promise.height place.promise.name.value.items
+        place.promise.form place.promise.host) run.places.items) }
     ensures err { IfErr result (λ fault. fault ≡ Memory) }
 {
     let HostEnds {
@@ -367,7 +412,20 @@ where
     H: Hosts<L>,
     D: Door,
     R: Wait + Drop,
-    requires { C.course ≡ record { host = began.now.host.value; room_width = began.now.room.width; room_height = began.now.room.height; password = began.now.room.password; form = form; roles = map (λ door. door.0) began.now.doors.value.items; last_end = left.last; came = came_over began.now.has_called (L.state began.now.link.value); links = map L.state left.links.items; told = links_in L.state left.written; taken = taken_of left.taker; updates = puts_of left.publisher.changes } }
+    requires { C.course ≡ record {
+      host = began.now.host.value;
+      room_width = began.now.room.width;
+      room_height = began.now.room.height;
+      password = began.now.room.password;
+      form = form;
+      roles = map (λ door. door.0) began.now.doors.value.items;
+      last_end = left.last;
+      came = came_over began.now.has_called (L.state began.now.link.value);
+      links = map L.state left.links.items;
+      told = links_in L.state left.written;
+      taken = taken_of left.taker;
+      updates = puts_of left.publisher.changes;
+    } }
     ensures ran { result.ran.course ≡ C.course }
     ensures last { result.last ≡ left.last }
     ensures links { result.links ≡ left.links }
@@ -466,19 +524,49 @@ where
     requires doors { (1 ≤ vec_len doors) × (vec_len doors ≤ 65) }
     requires roles { All (λ door. D.is_for door.1 door.0) doors.items }
     requires writer { L.state ends.writer ≡ unused }
-    ensures run { IfOk result (λ run. HasRun J.width J.height room.password (IsComing L.state H.came) run.last (came_over ends.has_called (L.state ends.reader)) (map L.state run.links.items) [] (puts_of run.publisher.changes)) }
+    ensures run { IfOk result (λ run. HasRun J.width J.height room.password
+        (IsComing L.state H.came) run.last (came_over ends.has_called (L.state ends.reader))
+        (map L.state run.links.items) [] (puts_of run.publisher.changes)) }
     ensures over { IfOk result (λ run. IsOver H.are_out run.hosts run.last) }
     ensures never { IfOk result (λ run. goes_on run.last ≡ true → H.again hosts ≡ None) }
-    ensures places { IfOk result (λ run. map (λ place. strand_of place.promise.sender.value) run.places.items ≡ fresh (vec_len doors)) }
-    ensures relay { IfOk result (λ run. All (λ place. relay_of place.promise.sender.value ≡ host_of run.taker) run.places.items) }
-    ensures told { IfOk result (λ run. TellsHosts (λ old reply new. Reaches old (step.Look reply ∷ []) new) (λ _. J.width) (λ _. J.height) nothing_put (links_in L.state run.written) (taken_of run.taker) run.strokes) }
-    ensures in_turn { IfOk result (λ run. AreToldInTurn J.width J.height [] (links_in L.state run.written) (taken_of run.taker)) }
-    ensures strokes { IfOk result (λ run. StrokesStand run.strokes (map taken_from (taken_of run.taker))) }
-    ensures dropped { IfOk result (λ run. run.dropped ≡ all_dropped (map taken_from (taken_of run.taker))) }
-    ensures doors { IfOk result (λ run. map (λ place. (place.promise.role, place.promise.door.value)) run.places.items ≡ doors.items) }
-    ensures watchers { IfOk result (λ run. All (λ place. place.promise.watcher.value ≡ nothing_put) run.places.items) }
-    ensures screen { IfOk result (λ run. All (λ place. IsOfScreen room.width room.height joined.name form (record { width = joined.w; height = joined.h }) place.promise.width place.promise.height place.promise.name.value.items place.promise.form place.promise.host) run.places.items) }
-    ensures ran { IfOk result (λ run. run.ran.course ≡ record { host = joined; room_width = room.width; room_height = room.height; password = room.password; form = form; roles = map (λ door. door.0) doors.items; last_end = run.last; came = came_over ends.has_called (L.state ends.reader); links = map L.state run.links.items; told = links_in L.state run.written; taken = taken_of run.taker; updates = puts_of run.publisher.changes }) }
+    ensures places { IfOk result (λ run.
+        map (λ place. strand_of place.promise.sender.value) run.places.items
+        ≡ fresh (vec_len doors)) }
+    ensures relay { IfOk result (λ run.
+        All (λ place. relay_of place.promise.sender.value ≡ host_of run.taker) run.places.items) }
+    ensures told { IfOk result (λ run.
+        TellsHosts (λ old reply new. Reaches old (step.Look reply ∷ []) new)
+        (λ _. J.width) (λ _. J.height) nothing_put (links_in L.state run.written)
+        (taken_of run.taker) run.strokes) }
+    ensures in_turn { IfOk result (λ run.
+        AreToldInTurn J.width J.height [] (links_in L.state run.written) (taken_of run.taker)) }
+    ensures strokes { IfOk result (λ run.
+        StrokesStand run.strokes (map taken_from (taken_of run.taker))) }
+    ensures dropped { IfOk result (λ run.
+        run.dropped ≡ all_dropped (map taken_from (taken_of run.taker))) }
+    ensures doors { IfOk result (λ run.
+        map (λ place. (place.promise.role, place.promise.door.value)) run.places.items
+        ≡ doors.items) }
+    ensures watchers { IfOk result (λ run.
+        All (λ place. place.promise.watcher.value ≡ nothing_put) run.places.items) }
+    ensures screen { IfOk result (λ run. All (λ place.
+        IsOfScreen room.width room.height joined.name form
+        (record { width = joined.w; height = joined.h }) place.promise.width place.promise.height
+        place.promise.name.value.items place.promise.form place.promise.host) run.places.items) }
+    ensures ran { IfOk result (λ run. run.ran.course ≡ record {
+      host = joined;
+      room_width = room.width;
+      room_height = room.height;
+      password = room.password;
+      form = form;
+      roles = map (λ door. door.0) doors.items;
+      last_end = run.last;
+      came = came_over ends.has_called (L.state ends.reader);
+      links = map L.state run.links.items;
+      told = links_in L.state run.written;
+      taken = taken_of run.taker;
+      updates = puts_of run.publisher.changes;
+    }) }
     ensures err { IfErr result (λ fault. (fault ≡ Memory) ⊎ (fault ≡ NoPlace)) }
 {
     let first = size_of(&joined);

@@ -45,7 +45,8 @@ impl SessionMaker {
         requires size { IsScreenSize width height }
         requires name { length name.now ≤ 255 }
         ensures size { IfOk result (λ maker. (maker.width ≡ width) × (maker.height ≡ height)) }
-        ensures named { IfOk result (λ maker. (maker.role ≡ role) × (maker.name.items ≡ name_of name.now)) }
+        ensures named { IfOk result (λ maker.
+            (maker.role ≡ role) × (maker.name.items ≡ name_of name.now)) }
         ensures formed { IfOk result (λ maker. (maker.form ≡ form) × (maker.host ≡ host)) }
         ensures err { IfErr result (λ fault. fault ≡ Memory) }
     {
@@ -64,9 +65,13 @@ impl SessionMaker {
 
     /// A viewer's session, which begins with its hello. It fails where memory is refused (`Memory`).
     pub(crate) fn open(&self) -> Result<Session, Fault>
-        ensures size { IfOk result (λ session. (session.width ≡ self.now.width) × (session.height ≡ self.now.height)) }
+        ensures size { IfOk result (λ session.
+            (session.width ≡ self.now.width) × (session.height ≡ self.now.height)) }
         ensures uncut { IfOk result (λ session. session.asked.last ≡ None) }
-        ensures stands { IfOk result (λ session. (s : Setup) → s.w ≡ self.now.width → s.h ≡ self.now.height → s.name ≡ self.now.name.items → s.runs ≡ self.now.form.runs → s.host ≡ Some self.now.host → s.zrle ≡ self.now.form.zrle → Stands s session (new_viewer self.now.role true)) }
+        ensures stands { IfOk result (λ session. (s : Setup) → s.w ≡ self.now.width
+            → s.h ≡ self.now.height → s.name ≡ self.now.name.items → s.runs ≡ self.now.form.runs
+            → s.host ≡ Some self.now.host → s.zrle ≡ self.now.form.zrle
+            → Stands s session (new_viewer self.now.role true)) }
         ensures err { IfErr result (λ fault. fault ≡ Memory) }
     {
         Session::open(

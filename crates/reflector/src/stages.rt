@@ -74,7 +74,13 @@ pub struct FreePlace<'a, D: Door, S: ScreenSource, K: InputSink, F: StopFlag, T:
     first: &'a PlaceBeginning<D, S, K>,
     key: PhantomData<T>,
     ghost screen: { (s : S) → (S.width s ≡ maker.now.width) × (S.height s ≡ maker.now.height) },
-    ghost lawful: { ∥ IsVisiting D.lets_in D.sees_off (λ source_old source_new sent_old sent_new why left. IsReceived S.looks S.cuts S.may_end (F.was_set stop.now) K.may_refuse S.known (setup_of maker.now.width maker.now.height maker.now.name.items maker.now.form maker.now.host) maker.now.role source_old source_new sent_old sent_new why left) (at first.now.door.value first.now.source.value (K.sent first.now.sink.value)) (at door source (K.sent sink)) ∥₁ },
+    ghost lawful: { ∥ IsVisiting D.lets_in D.sees_off
+        (λ source_old source_new sent_old sent_new why left.
+        IsReceived S.looks S.cuts S.may_end (F.was_set stop.now) K.may_refuse S.known
+        (setup_of maker.now.width maker.now.height maker.now.name.items maker.now.form
+        maker.now.host) maker.now.role source_old source_new sent_old sent_new why left)
+        (at first.now.door.value first.now.source.value (K.sent first.now.sink.value))
+        (at door source (K.sent sink)) ∥₁ },
 }
 
 /// A place whose door let a viewer in, with the session that was made for it. Nothing was done for the viewer yet.
@@ -92,8 +98,16 @@ pub struct MetPlace<'a, D: Door, S: ScreenSource, K: InputSink, F: StopFlag, T: 
     ghost fresh: { D.Viewer.state link ≡ unused },
     ghost size: { (session.width ≡ maker.now.width) × (session.height ≡ maker.now.height) },
     ghost uncut: { session.asked.last ≡ None },
-    ghost stands: { ∥ Stands (setup_of maker.now.width maker.now.height maker.now.name.items maker.now.form maker.now.host) session (new_viewer maker.now.role true) ∥₁ },
-    ghost lawful: { ∥ ((before : D) × IsVisiting D.lets_in D.sees_off (λ source_old source_new sent_old sent_new why left. IsReceived S.looks S.cuts S.may_end (F.was_set stop.now) K.may_refuse S.known (setup_of maker.now.width maker.now.height maker.now.name.items maker.now.form maker.now.host) maker.now.role source_old source_new sent_old sent_new why left) (at first.now.door.value first.now.source.value (K.sent first.now.sink.value)) (at before source (K.sent sink)) × D.lets_in before true door) ∥₁ },
+    ghost stands: { ∥ Stands (setup_of maker.now.width maker.now.height maker.now.name.items
+        maker.now.form maker.now.host) session (new_viewer maker.now.role true) ∥₁ },
+    ghost lawful: { ∥ ((before : D)
+        × IsVisiting D.lets_in D.sees_off (λ source_old source_new sent_old sent_new why left.
+        IsReceived S.looks S.cuts S.may_end (F.was_set stop.now) K.may_refuse S.known
+        (setup_of maker.now.width maker.now.height maker.now.name.items maker.now.form
+        maker.now.host) maker.now.role source_old source_new sent_old sent_new why left)
+        (at first.now.door.value first.now.source.value (K.sent first.now.sink.value))
+        (at before source (K.sent sink))
+        × D.lets_in before true door) ∥₁ },
 }
 
 /// A place whose viewer is there. The viewer's visit has all the rest: its link, the source and the sink.
@@ -108,8 +122,17 @@ pub struct BusyPlace<'a, 'b, D: Door, S: ScreenSource, K: InputSink, F: StopFlag
     key: PhantomData<T>,
     ghost screen: { (s : S) → (S.width s ≡ maker.now.width) × (S.height s ≡ maker.now.height) },
     ghost fresh: { D.Viewer.state began.now.link.value ≡ unused },
-    ghost stands: { ∥ Stands (setup_of maker.now.width maker.now.height maker.now.name.items maker.now.form maker.now.host) began.now.session.value (new_viewer maker.now.role true) ∥₁ },
-    ghost lawful: { ∥ ((before : D) × IsVisiting D.lets_in D.sees_off (λ source_old source_new sent_old sent_new why left. IsReceived S.looks S.cuts S.may_end (F.was_set stop.now) K.may_refuse S.known (setup_of maker.now.width maker.now.height maker.now.name.items maker.now.form maker.now.host) maker.now.role source_old source_new sent_old sent_new why left) (at first.now.door.value first.now.source.value (K.sent first.now.sink.value)) (at before began.now.source.value (K.sent began.now.sink.value)) × D.lets_in before true door) ∥₁ },
+    ghost stands: { ∥ Stands (setup_of maker.now.width maker.now.height
+        maker.now.name.items maker.now.form maker.now.host)
+        began.now.session.value (new_viewer maker.now.role true) ∥₁ },
+    ghost lawful: { ∥ ((before : D)
+        × IsVisiting D.lets_in D.sees_off (λ source_old source_new sent_old sent_new why left.
+        IsReceived S.looks S.cuts S.may_end (F.was_set stop.now) K.may_refuse S.known
+        (setup_of maker.now.width maker.now.height maker.now.name.items maker.now.form
+        maker.now.host) maker.now.role source_old source_new sent_old sent_new why left)
+        (at first.now.door.value first.now.source.value (K.sent first.now.sink.value))
+        (at before began.now.source.value (K.sent began.now.sink.value))
+        × D.lets_in before true door) ∥₁ },
 }
 
 /// A place that is left: no viewer comes any more.
@@ -121,7 +144,13 @@ pub struct LeftPlace<'a, D: Door, S: ScreenSource, K: InputSink, F: StopFlag, T:
     sink: K,
     first: &'a PlaceBeginning<D, S, K>,
     key: PhantomData<T>,
-    ghost lawful: { ∥ HasVisits D.lets_in D.sees_off (λ source_old source_new sent_old sent_new why left. IsReceived S.looks S.cuts S.may_end (F.was_set stop.now) K.may_refuse S.known (setup_of maker.now.width maker.now.height maker.now.name.items maker.now.form maker.now.host) maker.now.role source_old source_new sent_old sent_new why left) (at first.now.door.value first.now.source.value (K.sent first.now.sink.value)) (at door source (K.sent sink)) ∥₁ },
+    ghost lawful: { ∥ HasVisits D.lets_in D.sees_off
+        (λ source_old source_new sent_old sent_new why left.
+        IsReceived S.looks S.cuts S.may_end (F.was_set stop.now) K.may_refuse S.known
+        (setup_of maker.now.width maker.now.height maker.now.name.items maker.now.form
+        maker.now.host) maker.now.role source_old source_new sent_old sent_new why left)
+        (at first.now.door.value first.now.source.value (K.sent first.now.sink.value))
+        (at door source (K.sent sink)) ∥₁ },
 }
 
 impl<'a, D: Door, S: ScreenSource, K: InputSink, F: StopFlag, T: Drop> FreePlace<
@@ -141,10 +170,13 @@ impl<'a, D: Door, S: ScreenSource, K: InputSink, F: StopFlag, T: Drop> FreePlace
         source: S,
         sink: K,
     ) -> Self
-        requires first { (first.now.door.value ≡ door) × (first.now.source.value ≡ source) × (first.now.sink.value ≡ sink) }
-        requires screen { (s : S) → (S.width s ≡ maker.now.width) × (S.height s ≡ maker.now.height) }
+        requires first { (first.now.door.value ≡ door) × (first.now.source.value ≡ source)
+            × (first.now.sink.value ≡ sink) }
+        requires screen { (s : S)
+            → (S.width s ≡ maker.now.width) × (S.height s ≡ maker.now.height) }
         ensures parts { (result.door ≡ door) × (result.source ≡ source) × (result.sink ≡ sink) }
-        ensures lent { (result.first ≡ first.entry) × (result.maker ≡ maker.entry) × (result.stop ≡ stop.entry) }
+        ensures lent { (result.first ≡ first.entry) × (result.maker ≡ maker.entry)
+            × (result.stop ≡ stop.entry) }
     {
         FreePlace {
             maker,
@@ -160,7 +192,15 @@ impl<'a, D: Door, S: ScreenSource, K: InputSink, F: StopFlag, T: Drop> FreePlace
     /// It does nothing. Its clause says what is true of the place at every moment between two viewers: what its visits
     /// were.
     pub fn so_far(&self)
-        ensures { ∥ IsVisiting D.lets_in D.sees_off (λ source_old source_new sent_old sent_new why left. IsReceived S.looks S.cuts S.may_end (F.was_set self.now.stop.now) K.may_refuse S.known (setup_of self.now.maker.now.width self.now.maker.now.height self.now.maker.now.name.items self.now.maker.now.form self.now.maker.now.host) self.now.maker.now.role source_old source_new sent_old sent_new why left) (at self.now.first.now.door.value self.now.first.now.source.value (K.sent self.now.first.now.sink.value)) (at self.now.door self.now.source (K.sent self.now.sink)) ∥₁ }
+        ensures { ∥ IsVisiting D.lets_in D.sees_off
+            (λ source_old source_new sent_old sent_new why left.
+            IsReceived S.looks S.cuts S.may_end (F.was_set self.now.stop.now) K.may_refuse S.known
+            (setup_of self.now.maker.now.width self.now.maker.now.height
+            self.now.maker.now.name.items self.now.maker.now.form self.now.maker.now.host)
+            self.now.maker.now.role source_old source_new sent_old sent_new why left)
+            (at self.now.first.now.door.value self.now.first.now.source.value
+            (K.sent self.now.first.now.sink.value))
+            (at self.now.door self.now.source (K.sent self.now.sink)) ∥₁ }
     {}
 
     /// The flag that ends the place.
@@ -175,10 +215,22 @@ impl<'a, D: Door, S: ScreenSource, K: InputSink, F: StopFlag, T: Drop> FreePlace
     pub fn meet(
         self,
     ) -> Result<Result<MetPlace<'a, D, S, K, F, T>, Self>, LeftPlace<'a, D, S, K, F, T>>
-        ensures met { IfOk result (λ met. IfOk met (λ place. D.lets_in self.entry.door true place.door × (place.source ≡ self.entry.source) × (place.sink ≡ self.entry.sink) × (place.first ≡ self.entry.first) × (place.maker ≡ self.entry.maker) × (place.stop ≡ self.entry.stop))) }
-        ensures session { IfOk result (λ met. IfOk met (λ place. Stands (setup_of self.entry.maker.now.width self.entry.maker.now.height self.entry.maker.now.name.items self.entry.maker.now.form self.entry.maker.now.host) place.session (new_viewer self.entry.maker.now.role true))) }
-        ensures let_go { IfOk result (λ met. IfErr met (λ place. (door : D) × D.lets_in self.entry.door true door × D.sees_off door unused (Err Memory) place.door × (place.source ≡ self.entry.source) × (place.sink ≡ self.entry.sink) × (place.first ≡ self.entry.first) × (place.maker ≡ self.entry.maker) × (place.stop ≡ self.entry.stop))) }
-        ensures left { IfErr result (λ place. D.lets_in self.entry.door false place.door × (place.source ≡ self.entry.source) × (place.sink ≡ self.entry.sink) × (place.first ≡ self.entry.first)) }
+        ensures met { IfOk result (λ met. IfOk met (λ place.
+            D.lets_in self.entry.door true place.door × (place.source ≡ self.entry.source)
+            × (place.sink ≡ self.entry.sink) × (place.first ≡ self.entry.first)
+            × (place.maker ≡ self.entry.maker) × (place.stop ≡ self.entry.stop))) }
+        ensures session { IfOk result (λ met. IfOk met (λ place.
+            Stands (setup_of self.entry.maker.now.width self.entry.maker.now.height
+            self.entry.maker.now.name.items self.entry.maker.now.form self.entry.maker.now.host)
+            place.session (new_viewer self.entry.maker.now.role true))) }
+        ensures let_go { IfOk result (λ met. IfErr met (λ place.
+            (door : D) × D.lets_in self.entry.door true door
+            × D.sees_off door unused (Err Memory) place.door × (place.source ≡ self.entry.source)
+            × (place.sink ≡ self.entry.sink) × (place.first ≡ self.entry.first)
+            × (place.maker ≡ self.entry.maker) × (place.stop ≡ self.entry.stop))) }
+        ensures left { IfErr result (λ place.
+            D.lets_in self.entry.door false place.door × (place.source ≡ self.entry.source)
+            × (place.sink ≡ self.entry.sink) × (place.first ≡ self.entry.first)) }
     {
         let FreePlace {
             maker,
@@ -229,7 +281,8 @@ impl<'a, D: Door, S: ScreenSource, K: InputSink, F: StopFlag, T: Drop> FreePlace
 
     /// Asks for no further viewer.
     pub fn leave(self) -> LeftPlace<'a, D, S, K, F, T>
-        ensures { (result.door ≡ self.entry.door) × (result.source ≡ self.entry.source) × (result.sink ≡ self.entry.sink) × (result.first ≡ self.entry.first) }
+        ensures { (result.door ≡ self.entry.door) × (result.source ≡ self.entry.source)
+            × (result.sink ≡ self.entry.sink) × (result.first ≡ self.entry.first) }
     {
         let FreePlace {
             maker,
@@ -255,7 +308,8 @@ impl<'a, D: Door, S: ScreenSource, K: InputSink, F: StopFlag, T: Drop> FreePlace
 impl<'a, D: Door, S: ScreenSource, K: InputSink, F: StopFlag, T: Drop> MetPlace<'a, D, S, K, F, T> {
     /// The beginning of the viewer's visit.
     pub fn beginning(&self) -> Beginning<D::Viewer, S, K>
-        ensures { (result.link.value ≡ self.now.link) × (result.source.value ≡ self.now.source) × (result.sink.value ≡ self.now.sink) × (result.session.value ≡ self.now.session) }
+        ensures { (result.link.value ≡ self.now.link) × (result.source.value ≡ self.now.source)
+            × (result.sink.value ≡ self.now.sink) × (result.session.value ≡ self.now.session) }
     {
         Beginning::of(&self.link, &self.source, &self.sink, &self.session)
     }
@@ -268,10 +322,15 @@ impl<'a, D: Door, S: ScreenSource, K: InputSink, F: StopFlag, T: Drop> MetPlace<
         BusyPlace<'a, 'b, D, S, K, F, T>,
         Visit<'b, D::Viewer, S, K, Key>,
     )
-        requires { (began.now.link.value ≡ self.link) × (began.now.source.value ≡ self.source) × (began.now.sink.value ≡ self.sink) × (began.now.session.value ≡ self.session) }
-        ensures place { (result.0.door ≡ self.entry.door) × (result.0.began ≡ began.entry) × (result.0.first ≡ self.entry.first) × (result.0.maker ≡ self.entry.maker) × (result.0.stop ≡ self.entry.stop) }
-        ensures visit { (result.1.link ≡ self.entry.link) × (result.1.source ≡ self.entry.source) × (result.1.sink ≡ self.entry.sink) × (result.1.session ≡ self.entry.session) }
-        ensures begins { (result.1.inbox ≡ all_passed) × (result.1.is_served ≡ true) × (result.1.session.asked.last ≡ None) }
+        requires { (began.now.link.value ≡ self.link) × (began.now.source.value ≡ self.source)
+            × (began.now.sink.value ≡ self.sink) × (began.now.session.value ≡ self.session) }
+        ensures place { (result.0.door ≡ self.entry.door) × (result.0.began ≡ began.entry)
+            × (result.0.first ≡ self.entry.first) × (result.0.maker ≡ self.entry.maker)
+            × (result.0.stop ≡ self.entry.stop) }
+        ensures visit { (result.1.link ≡ self.entry.link) × (result.1.source ≡ self.entry.source)
+            × (result.1.sink ≡ self.entry.sink) × (result.1.session ≡ self.entry.session) }
+        ensures begins { (result.1.inbox ≡ all_passed) × (result.1.is_served ≡ true)
+            × (result.1.session.asked.last ≡ None) }
     {
         let MetPlace {
             maker,
@@ -311,8 +370,19 @@ impl<'a, 'b, D: Door, S: ScreenSource, K: InputSink, F: StopFlag, T: Drop> BusyP
     /// visits were before the viewer's own, of which `viewer_server::Visit::so_far` speaks, and that this one's session
     /// is of the place's role.
     pub fn so_far(&self)
-        ensures role { ∥ Stands (setup_of self.now.maker.now.width self.now.maker.now.height self.now.maker.now.name.items self.now.maker.now.form self.now.maker.now.host) self.now.began.now.session.value (new_viewer self.now.maker.now.role true) ∥₁ }
-        ensures visits { ∥ ((before : D) × IsVisiting D.lets_in D.sees_off (λ source_old source_new sent_old sent_new why left. IsReceived S.looks S.cuts S.may_end (F.was_set self.now.stop.now) K.may_refuse S.known (setup_of self.now.maker.now.width self.now.maker.now.height self.now.maker.now.name.items self.now.maker.now.form self.now.maker.now.host) self.now.maker.now.role source_old source_new sent_old sent_new why left) (at self.now.first.now.door.value self.now.first.now.source.value (K.sent self.now.first.now.sink.value)) (at before self.now.began.now.source.value (K.sent self.now.began.now.sink.value)) × D.lets_in before true self.now.door) ∥₁ }
+        ensures role { ∥ Stands (setup_of self.now.maker.now.width self.now.maker.now.height
+            self.now.maker.now.name.items self.now.maker.now.form self.now.maker.now.host)
+            self.now.began.now.session.value (new_viewer self.now.maker.now.role true) ∥₁ }
+        ensures visits { ∥ ((before : D)
+            × IsVisiting D.lets_in D.sees_off (λ source_old source_new sent_old sent_new why left.
+            IsReceived S.looks S.cuts S.may_end (F.was_set self.now.stop.now) K.may_refuse S.known
+            (setup_of self.now.maker.now.width self.now.maker.now.height
+            self.now.maker.now.name.items self.now.maker.now.form self.now.maker.now.host)
+            self.now.maker.now.role source_old source_new sent_old sent_new why left)
+            (at self.now.first.now.door.value self.now.first.now.source.value
+            (K.sent self.now.first.now.sink.value))
+            (at before self.now.began.now.source.value (K.sent self.now.began.now.sink.value))
+            × D.lets_in before true self.now.door) ∥₁ }
     {}
 
     /// The flag that ends the place.
@@ -335,10 +405,16 @@ impl<'a, 'b, D: Door, S: ScreenSource, K: InputSink, F: StopFlag, T: Drop> BusyP
         visit: Visit<'b, D::Viewer, S, K, Key>,
         why: Result<(), Fault>,
     ) -> FreePlace<'a, D, S, K, F, T>
-        requires { IsReceived S.looks S.cuts S.may_end (F.was_set self.stop.now) K.may_refuse S.known (setup_of self.maker.now.width self.maker.now.height self.maker.now.name.items self.maker.now.form self.maker.now.host) self.maker.now.role self.began.now.source.value visit.source (K.sent self.began.now.sink.value) (K.sent visit.sink) why (D.Viewer.state visit.link) }
-        ensures went { D.sees_off self.entry.door (D.Viewer.state visit.entry.link) why result.door }
+        requires { IsReceived S.looks S.cuts S.may_end (F.was_set self.stop.now)
+            K.may_refuse S.known (setup_of self.maker.now.width self.maker.now.height
+            self.maker.now.name.items self.maker.now.form self.maker.now.host)
+            self.maker.now.role self.began.now.source.value visit.source
+            (K.sent self.began.now.sink.value) (K.sent visit.sink) why (D.Viewer.state visit.link) }
+        ensures went { D.sees_off self.entry.door
+            (D.Viewer.state visit.entry.link) why result.door }
         ensures parts { (result.source ≡ visit.entry.source) × (result.sink ≡ visit.entry.sink) }
-        ensures lent { (result.first ≡ self.entry.first) × (result.maker ≡ self.entry.maker) × (result.stop ≡ self.entry.stop) }
+        ensures lent { (result.first ≡ self.entry.first) × (result.maker ≡ self.entry.maker)
+            × (result.stop ≡ self.entry.stop) }
     {
         let BusyPlace {
             maker,
@@ -374,7 +450,8 @@ impl<'a, D: Door, S: ScreenSource, K: InputSink, F: StopFlag, T: Drop> LeftPlace
 > {
     /// What the place had, as it is left.
     pub fn into_parts(self, _key: T) -> (D, S, K)
-        ensures { (result.0 ≡ self.entry.door) × (result.1 ≡ self.entry.source) × (result.2 ≡ self.entry.sink) }
+        ensures { (result.0 ≡ self.entry.door) × (result.1 ≡ self.entry.source)
+            × (result.2 ≡ self.entry.sink) }
     {
         let LeftPlace {
             maker: _,

@@ -80,8 +80,12 @@ pub struct FreeTeller<'a, L: Link, S: ScreenSource, K: InputSource, D: DropCount
     first: &'a TellerBeginning<S, K, D>,
     key: PhantomData<T>,
     ghost screen: { (s : S) → IsScreenSize (S.width s) (S.height s) },
-    ghost counted: { ∥ (IsCounted (K.taken first.now.taker.value) first.now.strokes.value (D.dropped first.now.drops.value) → IsCounted (K.taken taker) strokes (D.dropped drops)) ∥₁ },
-    ghost lawful: { ∥ IsTelling S.looks S.width S.height (desk [] first.now.source.value (K.taken first.now.taker.value) first.now.strokes.value) (desk (links_in L.state written) source (K.taken taker) strokes) ∥₁ },
+    ghost counted: { ∥ (IsCounted (K.taken first.now.taker.value)
+        first.now.strokes.value (D.dropped first.now.drops.value)
+        → IsCounted (K.taken taker) strokes (D.dropped drops)) ∥₁ },
+    ghost lawful: { ∥ IsTelling S.looks S.width S.height
+        (desk [] first.now.source.value (K.taken first.now.taker.value) first.now.strokes.value)
+        (desk (links_in L.state written) source (K.taken taker) strokes) ∥₁ },
 }
 
 /// A teller while a host is told. The host's telling has all the rest: its link, the source, the taker, the strokes and
@@ -94,8 +98,16 @@ pub struct BusyTeller<'a, 'b, L: Link, S: ScreenSource, K: InputSource, D: DropC
     key: PhantomData<T>,
     ghost screen: { (s : S) → IsScreenSize (S.width s) (S.height s) },
     ghost fresh: { L.state began.now.link.value ≡ unused },
-    ghost counted: { ∥ (IsCounted (K.taken first.now.taker.value) first.now.strokes.value (D.dropped first.now.drops.value) → IsCounted (K.taken began.now.taker.value) began.now.strokes.value (D.dropped began.now.drops.value)) ∥₁ },
-    ghost lawful: { ∥ ((before : List LinkState) × (links_in L.state written ≡ before ++ unused ∷ []) × IsTelling S.looks S.width S.height (desk [] first.now.source.value (K.taken first.now.taker.value) first.now.strokes.value) (desk before began.now.source.value (K.taken began.now.taker.value) began.now.strokes.value)) ∥₁ },
+    ghost counted: { ∥ (IsCounted (K.taken first.now.taker.value)
+        first.now.strokes.value (D.dropped first.now.drops.value)
+        → IsCounted (K.taken began.now.taker.value) began.now.strokes.value
+        (D.dropped began.now.drops.value)) ∥₁ },
+    ghost lawful: { ∥ ((before : List LinkState)
+        × (links_in L.state written ≡ before ++ unused ∷ [])
+        × IsTelling S.looks S.width S.height
+        (desk [] first.now.source.value (K.taken first.now.taker.value) first.now.strokes.value)
+        (desk before began.now.source.value (K.taken began.now.taker.value)
+        began.now.strokes.value)) ∥₁ },
 }
 
 impl<'a, L: Link, S: ScreenSource, K: InputSource, D: DropCount, T: Drop> FreeTeller<
@@ -114,9 +126,11 @@ impl<'a, L: Link, S: ScreenSource, K: InputSource, D: DropCount, T: Drop> FreeTe
         strokes: Strokes,
         drops: D,
     ) -> Self
-        requires first { (first.now.source.value ≡ source) × (first.now.taker.value ≡ taker) × (first.now.strokes.value ≡ strokes) × (first.now.drops.value ≡ drops) }
+        requires first { (first.now.source.value ≡ source) × (first.now.taker.value ≡ taker)
+            × (first.now.strokes.value ≡ strokes) × (first.now.drops.value ≡ drops) }
         requires screen { (s : S) → IsScreenSize (S.width s) (S.height s) }
-        ensures parts { (result.source ≡ source) × (result.taker ≡ taker) × (result.strokes ≡ strokes) × (result.drops ≡ drops) }
+        ensures parts { (result.source ≡ source) × (result.taker ≡ taker)
+            × (result.strokes ≡ strokes) × (result.drops ≡ drops) }
         ensures none { links_in L.state result.written ≡ [] }
         ensures first { result.first ≡ first.entry }
     {
@@ -138,15 +152,25 @@ impl<'a, L: Link, S: ScreenSource, K: InputSource, D: DropCount, T: Drop> FreeTe
     /// spellings of the inputs taken for it that pass, each once and in order, and of requests, from the moment on at
     /// which its link was made.
     pub fn so_far(&self)
-        ensures told { ∥ HasTold S.looks S.width S.height (desk [] self.now.first.now.source.value (K.taken self.now.first.now.taker.value) self.now.first.now.strokes.value) (links_in L.state self.now.written) (K.taken self.now.taker) self.now.strokes ∥₁ }
-        ensures in_turn { ∥ ((w h : ℕ) → ((s : S) → (S.width s ≡ w) × (S.height s ≡ h)) → K.taken self.now.first.now.taker.value ≡ [] → StrokesStand self.now.first.now.strokes.value [] → AreToldInTurn w h [] (links_in L.state self.now.written) (K.taken self.now.taker)) ∥₁ }
-        ensures counted { ∥ (IsCounted (K.taken self.now.first.now.taker.value) self.now.first.now.strokes.value (D.dropped self.now.first.now.drops.value) → IsCounted (K.taken self.now.taker) self.now.strokes (D.dropped self.now.drops)) ∥₁ }
+        ensures told { ∥ HasTold S.looks S.width S.height (desk [] self.now.first.now.source.value
+            (K.taken self.now.first.now.taker.value) self.now.first.now.strokes.value)
+            (links_in L.state self.now.written) (K.taken self.now.taker) self.now.strokes ∥₁ }
+        ensures in_turn { ∥ ((w h : ℕ) → ((s : S) → (S.width s ≡ w) × (S.height s ≡ h))
+            → K.taken self.now.first.now.taker.value ≡ []
+            → StrokesStand self.now.first.now.strokes.value []
+            → AreToldInTurn w h [] (links_in L.state self.now.written)
+            (K.taken self.now.taker)) ∥₁ }
+        ensures counted { ∥ (IsCounted (K.taken self.now.first.now.taker.value)
+            self.now.first.now.strokes.value (D.dropped self.now.first.now.drops.value)
+            → IsCounted (K.taken self.now.taker) self.now.strokes (D.dropped self.now.drops)) ∥₁ }
     {}
 
     /// How telling the next host begins, over the link that came.
     pub fn beginning(&self, came: &CameLink<L>) -> TellBeginning<L, S, K, D>
         ensures fresh { L.state result.link.value ≡ unused }
-        ensures parts { (result.link.value ≡ came.now.link) × (result.source.value ≡ self.now.source) × (result.taker.value ≡ self.now.taker) × (result.strokes.value ≡ self.now.strokes) × (result.drops.value ≡ self.now.drops) }
+        ensures parts { (result.link.value ≡ came.now.link)
+            × (result.source.value ≡ self.now.source) × (result.taker.value ≡ self.now.taker)
+            × (result.strokes.value ≡ self.now.strokes) × (result.drops.value ≡ self.now.drops) }
     {
         came.beginning(&self.source, &self.taker, &self.strokes, &self.drops)
     }
@@ -160,11 +184,18 @@ impl<'a, L: Link, S: ScreenSource, K: InputSource, D: DropCount, T: Drop> FreeTe
         BusyTeller<'a, 'b, L, S, K, D, T>,
         Telling<'b, L, S, K, D, TellerKey>,
     )
-        requires { (began.now.link.value ≡ came.link) × (began.now.source.value ≡ self.source) × (began.now.taker.value ≡ self.taker) × (began.now.strokes.value ≡ self.strokes) × (began.now.drops.value ≡ self.drops) }
-        ensures came { links_in L.state result.0.written ≡ links_in L.state self.entry.written ++ unused ∷ [] }
+        requires { (began.now.link.value ≡ came.link) × (began.now.source.value ≡ self.source)
+            × (began.now.taker.value ≡ self.taker) × (began.now.strokes.value ≡ self.strokes)
+            × (began.now.drops.value ≡ self.drops) }
+        ensures came { links_in L.state result.0.written
+            ≡ links_in L.state self.entry.written ++ unused ∷ [] }
         ensures lent { (result.0.began ≡ began.entry) × (result.0.first ≡ self.entry.first) }
-        ensures telling { (L.state result.1.link ≡ unused) × (result.1.source ≡ self.entry.source) × (result.1.taker ≡ self.entry.taker) × (result.1.strokes ≡ self.entry.strokes) × (result.1.drops ≡ self.entry.drops) }
-        ensures begins { (result.1.saying ≡ begun []) × (result.1.asked ≡ 0) × (result.1.request ≡ whole_request (S.width self.entry.source) (S.height self.entry.source)) }
+        ensures telling { (L.state result.1.link ≡ unused) × (result.1.source ≡ self.entry.source)
+            × (result.1.taker ≡ self.entry.taker) × (result.1.strokes ≡ self.entry.strokes)
+            × (result.1.drops ≡ self.entry.drops) }
+        ensures begins { (result.1.saying ≡ begun []) × (result.1.asked ≡ 0)
+            × (result.1.request
+            ≡ whole_request (S.width self.entry.source) (S.height self.entry.source)) }
         ensures first { result.1.first ≡ began.entry }
     {
         let FreeTeller {
@@ -190,7 +221,9 @@ impl<'a, L: Link, S: ScreenSource, K: InputSource, D: DropCount, T: Drop> FreeTe
 
     /// What the teller had, as it is left.
     pub fn into_parts(self, _key: T) -> (S, K, Strokes, D, Written<L>)
-        ensures { (result.0 ≡ self.entry.source) × (result.1 ≡ self.entry.taker) × (result.2 ≡ self.entry.strokes) × (result.3 ≡ self.entry.drops) × (result.4 ≡ self.entry.written) }
+        ensures { (result.0 ≡ self.entry.source) × (result.1 ≡ self.entry.taker)
+            × (result.2 ≡ self.entry.strokes) × (result.3 ≡ self.entry.drops)
+            × (result.4 ≡ self.entry.written) }
     {
         let FreeTeller {
             source,
@@ -218,8 +251,15 @@ impl<'a, 'b, L: Link, S: ScreenSource, K: InputSource, D: DropCount, T: Drop> Bu
     /// before this one, whose link is the last that was noted. Of this one `host_writer::Telling::so_far` speaks.
     pub fn so_far(&self)
         ensures fresh { L.state self.now.began.now.link.value ≡ unused }
-        ensures told { ∥ ((before : List LinkState) × (links_in L.state self.now.written ≡ before ++ unused ∷ []) × HasTold S.looks S.width S.height (desk [] self.now.first.now.source.value (K.taken self.now.first.now.taker.value) self.now.first.now.strokes.value) before (K.taken self.now.began.now.taker.value) self.now.began.now.strokes.value) ∥₁ }
-        ensures counted { ∥ (IsCounted (K.taken self.now.first.now.taker.value) self.now.first.now.strokes.value (D.dropped self.now.first.now.drops.value) → IsCounted (K.taken self.now.began.now.taker.value) self.now.began.now.strokes.value (D.dropped self.now.began.now.drops.value)) ∥₁ }
+        ensures told { ∥ ((before : List LinkState)
+            × (links_in L.state self.now.written ≡ before ++ unused ∷ [])
+            × HasTold S.looks S.width S.height (desk [] self.now.first.now.source.value
+            (K.taken self.now.first.now.taker.value) self.now.first.now.strokes.value)
+            before (K.taken self.now.began.now.taker.value) self.now.began.now.strokes.value) ∥₁ }
+        ensures counted { ∥ (IsCounted (K.taken self.now.first.now.taker.value)
+            self.now.first.now.strokes.value (D.dropped self.now.first.now.drops.value)
+            → IsCounted (K.taken self.now.began.now.taker.value) self.now.began.now.strokes.value
+            (D.dropped self.now.began.now.drops.value)) ∥₁ }
     {}
 
     /// It does nothing. Its clauses say what is true at every moment of the teller and of the telling of its host
@@ -228,8 +268,17 @@ impl<'a, 'b, L: Link, S: ScreenSource, K: InputSource, D: DropCount, T: Drop> Bu
     /// and what didn't pass is counted.
     pub fn all_so_far(&self, telling: &Telling<'b, L, S, K, D, TellerKey>)
         requires { telling.now.first ≡ self.now.began }
-        ensures in_turn { ∥ ((w h : ℕ) → ((s : S) → (S.width s ≡ w) × (S.height s ≡ h)) → K.taken self.now.first.now.taker.value ≡ [] → StrokesStand self.now.first.now.strokes.value [] → (before : List LinkState) × (links_in L.state self.now.written ≡ before ++ unused ∷ []) × AreToldInTurn w h [] (before ++ unused ∷ L.state telling.now.link ∷ []) (K.taken telling.now.taker)) ∥₁ }
-        ensures counted { ∥ (IsCounted (K.taken self.now.first.now.taker.value) self.now.first.now.strokes.value (D.dropped self.now.first.now.drops.value) → IsCounted (K.taken telling.now.taker) telling.now.strokes (D.dropped telling.now.drops)) ∥₁ }
+        ensures in_turn { ∥ ((w h : ℕ) → ((s : S) → (S.width s ≡ w) × (S.height s ≡ h))
+            → K.taken self.now.first.now.taker.value ≡ []
+            → StrokesStand self.now.first.now.strokes.value []
+            → (before : List LinkState)
+            × (links_in L.state self.now.written ≡ before ++ unused ∷ [])
+            × AreToldInTurn w h [] (before ++ unused ∷ L.state telling.now.link ∷ [])
+            (K.taken telling.now.taker)) ∥₁ }
+        ensures counted { ∥ (IsCounted (K.taken self.now.first.now.taker.value)
+            self.now.first.now.strokes.value (D.dropped self.now.first.now.drops.value)
+            → IsCounted (K.taken telling.now.taker) telling.now.strokes
+            (D.dropped telling.now.drops)) ∥₁ }
     {
         telling.so_far();
     }
@@ -241,9 +290,16 @@ impl<'a, 'b, L: Link, S: ScreenSource, K: InputSource, D: DropCount, T: Drop> Bu
         why: Result<(), Fault>,
     ) -> FreeTeller<'a, L, S, K, D, T>
         requires first { telling.first ≡ self.began }
-        requires writes { Tells S.looks ⊤ self.began.now.source.value telling.source (K.taken self.began.now.taker.value) (K.taken telling.taker) self.began.now.strokes.value telling.strokes (S.width self.began.now.source.value) (S.height self.began.now.source.value) why (L.state self.began.now.link.value) (L.state telling.link) }
-        ensures left { links_in L.state result.written ≡ links_in L.state self.entry.written ++ L.state telling.entry.link ∷ [] }
-        ensures parts { (result.source ≡ telling.entry.source) × (result.taker ≡ telling.entry.taker) × (result.strokes ≡ telling.entry.strokes) × (result.drops ≡ telling.entry.drops) }
+        requires writes { Tells S.looks ⊤ self.began.now.source.value telling.source
+            (K.taken self.began.now.taker.value) (K.taken telling.taker)
+            self.began.now.strokes.value telling.strokes
+            (S.width self.began.now.source.value) (S.height self.began.now.source.value) why
+            (L.state self.began.now.link.value) (L.state telling.link) }
+        ensures left { links_in L.state result.written
+            ≡ links_in L.state self.entry.written ++ L.state telling.entry.link ∷ [] }
+        ensures parts { (result.source ≡ telling.entry.source)
+            × (result.taker ≡ telling.entry.taker) × (result.strokes ≡ telling.entry.strokes)
+            × (result.drops ≡ telling.entry.drops) }
         ensures first { result.first ≡ self.entry.first }
     {
         let BusyTeller {

@@ -31,7 +31,9 @@ impl<L: Link> CameLink<L> {
         drops: &D,
     ) -> TellBeginning<L, S, K, D>
         ensures fresh { L.state result.link.value ≡ unused }
-        ensures parts { (result.link.value ≡ self.now.link) × (result.source.value ≡ source.now) × (result.taker.value ≡ taker.now) × (result.strokes.value ≡ strokes.now) × (result.drops.value ≡ drops.now) }
+        ensures parts { (result.link.value ≡ self.now.link) × (result.source.value ≡ source.now)
+            × (result.taker.value ≡ taker.now) × (result.strokes.value ≡ strokes.now)
+            × (result.drops.value ≡ drops.now) }
     {
         TellBeginning::of(&self.link, source, taker, strokes, drops)
     }

@@ -52,7 +52,12 @@ impl<L: Link, S: ScreenSource, R: Wait + Drop> Promise<HostsTold<L, R>> for OfTa
     ghost use Rattle.reflector.specs.Tellings.{HasTold, desk};
     ghost use Rattle.run_traits.specs.Written.{links_in};
 
-    ghost kept_by = { λ promise told. (host_of told.taker ≡ host_of promise.taker.value) × (IsCounted (taken_of promise.taker.value) promise.strokes.value 0 → IsCounted (taken_of told.taker) told.strokes told.dropped) × HasTold S.looks S.width S.height (desk [] promise.source.value (taken_of promise.taker.value) promise.strokes.value) (links_in L.state told.written) (taken_of told.taker) told.strokes };
+    ghost kept_by = { λ promise told. (host_of told.taker ≡ host_of promise.taker.value)
+        × (IsCounted (taken_of promise.taker.value) promise.strokes.value 0
+        → IsCounted (taken_of told.taker) told.strokes told.dropped)
+        × HasTold S.looks S.width S.height
+        (desk [] promise.source.value (taken_of promise.taker.value) promise.strokes.value)
+        (links_in L.state told.written) (taken_of told.taker) told.strokes };
 }
 
 /// The thread that tells the hosts.
@@ -78,8 +83,12 @@ where
     Z: Rest,
     R: Wait,
     ensures relay { K.relay result.taker ≡ K.relay free.entry.taker }
-    ensures counted { IsCounted (K.taken free.entry.taker) free.entry.strokes (D.dropped free.entry.drops) → IsCounted (K.taken result.taker) result.strokes (D.dropped result.drops) }
-    ensures told { HasTold S.looks S.width S.height (desk (links_in L.state free.entry.written) free.entry.source (K.taken free.entry.taker) free.entry.strokes) (links_in L.state result.written) (K.taken result.taker) result.strokes }
+    ensures counted { IsCounted (K.taken free.entry.taker)
+        free.entry.strokes (D.dropped free.entry.drops)
+        → IsCounted (K.taken result.taker) result.strokes (D.dropped result.drops) }
+    ensures told { HasTold S.looks S.width S.height (desk (links_in L.state free.entry.written)
+        free.entry.source (K.taken free.entry.taker) free.entry.strokes)
+        (links_in L.state result.written) (K.taken result.taker) result.strokes }
 {
     let mut idle = free;
     for _ in rt.forever() {
@@ -107,8 +116,10 @@ fn tell<L: Link, W: Alarm + Drop, S: ScreenSource + Drop, Z: Rest, R: Wait + Dro
 ) -> HostsTold<L, R>
     requires { (s : S) → IsScreenSize (S.width s) (S.height s) }
     ensures relay { host_of result.taker ≡ host_of taker }
-    ensures counted { IsCounted (taken_of taker) strokes 0 → IsCounted (taken_of result.taker) result.strokes result.dropped }
-    ensures told { HasTold S.looks S.width S.height (desk [] source (taken_of taker) strokes) (links_in L.state result.written) (taken_of result.taker) result.strokes }
+    ensures counted { IsCounted (taken_of taker) strokes 0
+        → IsCounted (taken_of result.taker) result.strokes result.dropped }
+    ensures told { HasTold S.looks S.width S.height (desk [] source (taken_of taker) strokes)
+        (links_in L.state result.written) (taken_of result.taker) result.strokes }
 {
     let untold = Untold::new(input);
     let first = TellerBeginning::of(&source, &taker, &strokes, &untold);
@@ -140,7 +151,8 @@ where
     W: Alarm + Drop + Send + Sync + 'static,
     R: Threads + Wait + Copy + Drop + Send + 'static,
     requires { (s : S) → IsScreenSize (S.width s) (S.height s) }
-    ensures of { IfOk result (λ handle. (handle.promise.source.value ≡ source) × (handle.promise.taker.value ≡ taker) × (handle.promise.strokes.value ≡ strokes)) }
+    ensures of { IfOk result (λ handle. (handle.promise.source.value ≡ source)
+        × (handle.promise.taker.value ≡ taker) × (handle.promise.strokes.value ≡ strokes)) }
     ensures err { IfErr result (λ fault. fault ≡ Memory) }
 {
     let promise = OfTaker {
@@ -154,8 +166,11 @@ where
         move || -> HostsTold<L, R>
             requires { (s : S) → IsScreenSize (S.width s) (S.height s) }
             ensures relay { host_of result.taker ≡ host_of taker }
-            ensures counted { IsCounted (taken_of taker) strokes 0 → IsCounted (taken_of result.taker) result.strokes result.dropped }
-            ensures told { HasTold S.looks S.width S.height (desk [] source (taken_of taker) strokes) (links_in L.state result.written) (taken_of result.taker) result.strokes }
+            ensures counted { IsCounted (taken_of taker) strokes 0
+                → IsCounted (taken_of result.taker) result.strokes result.dropped }
+            ensures told { HasTold S.looks S.width S.height
+                (desk [] source (taken_of taker) strokes) (links_in L.state result.written)
+                (taken_of result.taker) result.strokes }
         { tell(&rt, turns, source, taker, strokes, input, &*rest) },
     );
     match started {
@@ -179,7 +194,8 @@ where
     W: Alarm + Rest + Drop + Send + Sync + 'static,
     R: Threads + Wait + Copy + Drop + Send + 'static,
     requires { (s : S) → IsScreenSize (S.width s) (S.height s) }
-    ensures of { IfOk result (λ handle. (handle.promise.source.value ≡ source) × (handle.promise.taker.value ≡ taker) × (handle.promise.strokes.value ≡ strokes)) }
+    ensures of { IfOk result (λ handle. (handle.promise.source.value ≡ source)
+        × (handle.promise.taker.value ≡ taker) × (handle.promise.strokes.value ≡ strokes)) }
     ensures err { IfErr result (λ fault. fault ≡ Memory) }
 {
     let rest = Arc::try_clone(&context.writer)?;

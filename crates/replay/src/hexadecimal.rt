@@ -35,8 +35,10 @@ pub fn script_bytes(alloc: Global, text: &str) -> Result<Option<Vec<u8>>, Fault>
 /// The words of a text, joined without the single blanks between them. It is `None` where a blank stands at either end
 /// or beside another, or where the text has no byte.
 fn joined(alloc: Global, text: &[u8]) -> Result<Option<Vec<u8>>, AllocError>
-    ensures found { IfOk result (λ found. IfSome found (λ digits. (words : List (List ℕ)) × IsDivided text.now words × (digits.items ≡ concat words))) }
-    ensures none { IfOk result (λ found. IfNone found ((words : List (List ℕ)) → ¬ IsDivided text.now words)) }
+    ensures found { IfOk result (λ found. IfSome found (λ digits.
+        (words : List (List ℕ)) × IsDivided text.now words × (digits.items ≡ concat words))) }
+    ensures none { IfOk result (λ found.
+        IfNone found ((words : List (List ℕ)) → ¬ IsDivided text.now words)) }
 {
     let mut digits = Vec::with_capacity(alloc, text.len())?;
     let mut begins = true;
@@ -68,7 +70,8 @@ fn upper_digit(number: u8) -> char
 }
 
 fn push_byte(text: &mut String, byte: u8) -> Result<(), AllocError>
-    ensures { OnOk result (string_bytes text.new ≡ string_bytes text.old ++ encode_upper (byte ∷ [])) }
+    ensures { OnOk result
+        (string_bytes text.new ≡ string_bytes text.old ++ encode_upper (byte ∷ [])) }
 {
     text.push(upper_digit(byte / 16))?;
     text.push(upper_digit(byte % 16))?;

@@ -54,7 +54,8 @@ impl<'a> Line<'a> {
     pub fn read(alloc: Global, line: &'a str) -> Result<Option<Line<'a>>, Fault>
         ensures in_range { IfOk result (λ found. IfSome found IsInRange) }
         ensures says { IfOk result (λ found. IfSome found (λ said. Says said line.now)) }
-        ensures none { IfOk result (λ found. IfNone found ((said : declared.Line) → IsInRange said → ¬ Says said line.now)) }
+        ensures none { IfOk result (λ found.
+            IfNone found ((said : declared.Line) → IsInRange said → ¬ Says said line.now)) }
         ensures memory { IfErr result (λ fault. fault ≡ Memory) }
     {
         if line == "raise" {
@@ -85,7 +86,8 @@ impl<'a> Line<'a> {
 
 /// Whether a text has a plus or a leading zero, which `parse` would take.
 fn is_padded(text: &[u8]) -> bool
-    ensures { result ≡ ((slice_index text.now 0 == 43) || ((slice_index text.now 0 == 48) && nat_lt 1 (length text.now))) }
+    ensures { result ≡ ((slice_index text.now 0 == 43)
+        || ((slice_index text.now 0 == 48) && nat_lt 1 (length text.now))) }
 {
     !text.is_empty() && (text[0] == b'+' || (text[0] == b'0' && text.len() > 1))
 }
@@ -103,7 +105,8 @@ fn number(text: &str) -> Option<u64>
 
 /// The word before the first blank, and what follows it.
 fn split(text: &str) -> Option<(&str, &str)>
-    ensures found { IfSome result (λ parts. (text.now ≡ parts.0.now ++ (blank ∷ parts.1.now)) × All (λ b. b ≢ blank) parts.0.now) }
+    ensures found { IfSome result (λ parts.
+        (text.now ≡ parts.0.now ++ (blank ∷ parts.1.now)) × All (λ b. b ≢ blank) parts.0.now) }
     ensures none { IfNone result (All (λ b. b ≢ blank) text.now) }
 {
     text.split_once(' ')
@@ -111,7 +114,8 @@ fn split(text: &str) -> Option<(&str, &str)>
 
 /// A number from 1 on.
 fn number_up_to(greatest: u64, text: &str) -> Option<u64>
-    ensures found { IfSome result (λ found. (1 ≤ found) × (found ≤ greatest) × (text.now ≡ decimal found)) }
+    ensures found { IfSome result (λ found.
+        (1 ≤ found) × (found ≤ greatest) × (text.now ≡ decimal found)) }
     ensures none { IfNone result ((n : ℕ) → 1 ≤ n → n ≤ greatest → text.now ≢ decimal n) }
 {
     match number(text) {
@@ -122,7 +126,8 @@ fn number_up_to(greatest: u64, text: &str) -> Option<u64>
 
 /// The number of a viewer.
 fn viewer_number(text: &str) -> Option<u64>
-    ensures found { IfSome result (λ viewer. (1 ≤ viewer) × (viewer ≤ 64) × (text.now ≡ decimal viewer)) }
+    ensures found { IfSome result (λ viewer.
+        (1 ≤ viewer) × (viewer ≤ 64) × (text.now ≡ decimal viewer)) }
     ensures none { IfNone result ((n : ℕ) → 1 ≤ n → n ≤ 64 → text.now ≢ decimal n) }
 {
     number_up_to(64, text)
@@ -156,7 +161,8 @@ fn host_line(alloc: Global, text: &str) -> Result<Option<Line<'static>>, Fault>
 /// `full` or `view`
 fn access_of(word: &str) -> Option<Access>
     ensures found { IfSome result (λ access. word.now ≡ access_word access) }
-    ensures none { IfNone result ((access : declared_access.Access) → word.now ≢ access_word access) }
+    ensures none { IfNone result
+        ((access : declared_access.Access) → word.now ≢ access_word access) }
 {
     match word {
         "full" => Some(Access::Full),
@@ -167,8 +173,10 @@ fn access_of(word: &str) -> Option<Access>
 
 /// `V full` or `V view`
 fn place_of(text: &str) -> Option<(u64, Access)>
-    ensures found { IfSome result (λ place. (1 ≤ place.0) × (place.0 ≤ 64) × (text.now ≡ decimal place.0 ++ (blank ∷ access_word place.1))) }
-    ensures none { IfNone result ((n : ℕ) (access : declared_access.Access) → 1 ≤ n → n ≤ 64 → text.now ≢ decimal n ++ (blank ∷ access_word access)) }
+    ensures found { IfSome result (λ place. (1 ≤ place.0) × (place.0 ≤ 64)
+        × (text.now ≡ decimal place.0 ++ (blank ∷ access_word place.1))) }
+    ensures none { IfNone result ((n : ℕ) (access : declared_access.Access) → 1 ≤ n → n ≤ 64
+        → text.now ≢ decimal n ++ (blank ∷ access_word access)) }
 {
     let (viewer, word) = split(text)?;
     let access = access_of(word)?;

@@ -34,7 +34,8 @@ impl<P: FixedPart> Model for Fields<P> {
 
     ghost use Rattle.rfb_wire.specs.declared.fields.TheConstants.{LONGEST_PART};
 
-    ghost invariant = { λ f. (length (take f.filled f.bytes) ≡ f.filled) × (f.filled < P.len_of f.part) × (P.len_of f.part ≤ LONGEST_PART) };
+    ghost invariant = { λ f. (length (take f.filled f.bytes) ≡ f.filled)
+        × (f.filled < P.len_of f.part) × (P.len_of f.part ≤ LONGEST_PART) };
 }
 
 impl<P: FixedPart> Fields<P> {

@@ -83,7 +83,8 @@ pub(crate) fn number_in(field: &[u8]) -> u32
 /// A width or a height, in the two bytes of a field from byte `i` on.
 pub(crate) fn size_at(field: &[u8], i: usize) -> u16
     requires { i + 2 ≤ length field.now }
-    ensures { result ≡ from_be_bytes w16 (slice_index field.now i ∷ slice_index field.now (i + 1) ∷ []) }
+    ensures { result
+        ≡ from_be_bytes w16 (slice_index field.now i ∷ slice_index field.now (i + 1) ∷ []) }
 {
     u16::from_be_bytes([field[i], field[i + 1]])
 }

@@ -49,7 +49,8 @@ impl HostHello {
 
     /// What is answered once this many bytes were used.
     fn so_far(&self, used: usize) -> Result<usize, Fault>
-        ensures { MatchResult result (λ n. (n ≡ used) × (fault_of (ahead self.now) ≡ None)) (λ fault. fault_of (ahead self.now) ≡ Some fault) }
+        ensures { MatchResult result (λ n. (n ≡ used) × (fault_of (ahead self.now) ≡ None))
+            (λ fault. fault_of (ahead self.now) ≡ Some fault) }
     {
         match self.talk.fault() {
             Some(fault) => Err(fault),
@@ -63,7 +64,8 @@ impl HostHello {
     /// shows them has come.
     pub fn feed(&mut self, piece: &[u8]) -> Result<usize, Fault>
         ensures reads { Feeds (ahead self.old) (ahead self.new) piece.now result }
-        ensures heard { (stream : List ℕ) → HasHeard self.old stream → HasHeard self.new (stream ++ take (taken (ahead self.old) piece.now) piece.now) }
+        ensures heard { (stream : List ℕ) → HasHeard self.old stream
+            → HasHeard self.new (stream ++ take (taken (ahead self.old) piece.now) piece.now) }
         ensures same { IsSameTalk self.old self.new }
     {
         for (used, byte) in piece.iter().enumerate() {
@@ -78,7 +80,9 @@ impl HostHello {
     /// What is to be sent to the host next. There is nothing after a fault.
     pub fn out(&self) -> &[u8]
         ensures value { result.now ≡ to_send self.now }
-        ensures said { (stream : List ℕ) → HasHeard self.now stream → fault_of (ahead self.now) ≡ None → result.now ≡ drop self.now.sent (said_to_host self.now.password stream) }
+        ensures said { (stream : List ℕ) → HasHeard self.now stream
+            → fault_of (ahead self.now) ≡ None
+            → result.now ≡ drop self.now.sent (said_to_host self.now.password stream) }
     {
         if self.talk.fault().is_some() {
             return &[];

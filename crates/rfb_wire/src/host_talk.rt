@@ -85,7 +85,8 @@ impl Stage {
 /// The security type that is chosen of those that a host offers, if there is one: None before VNC Authentication, which
 /// takes a password.
 fn chosen(types: &[u8], has_password: bool) -> Option<u8>
-    ensures { (password : Option (List ℕ)) → is_some password ≡ has_password → result ≡ chosen password types.now }
+    ensures { (password : Option (List ℕ)) → is_some password ≡ has_password
+        → result ≡ chosen password types.now }
 {
     if types.contains(&NONE) {
         Some(NONE)
@@ -130,7 +131,17 @@ impl HostTalk {
 
     /// A handshake of which nothing has come.
     pub(crate) fn new(password: Option<Password>) -> HostTalk
-        ensures { result ≡ record { stage = Stage.Version; field = record { items = [] }; wanted = VERSION_LEN; w = 0; h = 0; rest = 0; password = password; said = record { items = [] }; sent = 0 } }
+        ensures { result ≡ record {
+          stage = Stage.Version;
+          field = record { items = [] };
+          wanted = VERSION_LEN;
+          w = 0;
+          h = 0;
+          rest = 0;
+          password = password;
+          said = record { items = [] };
+          sent = 0;
+        } }
     {
         HostTalk {
             stage: Stage::Version,
@@ -185,7 +196,8 @@ impl HostTalk {
 
     /// Goes on to a field of this many bytes.
     fn begin(&mut self, stage: Stage, wanted: usize)
-        ensures { self.new ≡ record self.old { stage = stage; wanted = wanted; field = record { items = [] } } }
+        ensures { self.new
+            ≡ record self.old { stage = stage; wanted = wanted; field = record { items = [] } } }
     {
         self.field.clear();
         self.stage = stage;
@@ -195,7 +207,8 @@ impl HostTalk {
     /// These bytes have to be said next.
     fn say(&mut self, bytes: &[u8])
         requires { length self.old.said.items + length bytes.now ≤ MOST_SAID }
-        ensures { self.new ≡ record self.old { said = record { items = self.old.said.items ++ bytes.now } } }
+        ensures { self.new
+            ≡ record self.old { said = record { items = self.old.said.items ++ bytes.now } } }
     {
         // There is room for all that is said.
         let _ = self.said.try_extend_from_slice(bytes);
@@ -341,7 +354,8 @@ impl HostTalk {
     /// Judges the field that is whole, and goes on to the next.
     fn judge(&mut self)
         requires field { is_field self.old.stage ≡ true }
-        requires fits { FitsStage self.old.stage self.old.wanted self.old.rest (length self.old.field.items) }
+        requires fits { FitsStage self.old.stage self.old.wanted self.old.rest
+            (length self.old.field.items) }
         requires whole { length self.old.field.items ≡ self.old.wanted }
         requires says { SaysWithin self.old }
         ensures { IsJudged self.old self.new }
@@ -367,7 +381,10 @@ impl HostTalk {
     fn pass(&mut self)
         requires stage { self.old.stage ≡ Stage.Rest }
         requires sound { IsSound self.old }
-        ensures { self.new ≡ record self.old { rest = self.old.rest - 1; stage = (if self.old.rest == 1 then Stage.Joined else Stage.Rest) } }
+        ensures { self.new ≡ record self.old {
+          rest = self.old.rest - 1;
+          stage = (if self.old.rest == 1 then Stage.Joined else Stage.Rest);
+        } }
     {
         self.rest -= 1;
         if self.rest == 0 {
@@ -380,7 +397,9 @@ impl HostTalk {
         requires field { is_field self.old.stage ≡ true }
         requires sound { IsSound self.old }
         ensures sound { IsSound self.new }
-        ensures alike { GoesOnAlike (record self.old { field = record { items = self.old.field.items ++ byte ∷ [] } }) self.new }
+        ensures alike { GoesOnAlike (record self.old {
+          field = record { items = self.old.field.items ++ byte ∷ [] };
+        }) self.new }
         ensures same { IsSameTalk self.old self.new }
     {
         self.field.push(byte);

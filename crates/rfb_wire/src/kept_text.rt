@@ -61,7 +61,8 @@ impl KeptText {
     /// nothing changes.
     pub fn keep(&mut self, next: &[u8]) -> Result<(), Fault>
         requires { length next.now < self.old.1 }
-        ensures kept { OnOk result (self.new ≡ (self.old.0 ++ next.now, self.old.1 - length next.now)) }
+        ensures kept { OnOk result
+            (self.new ≡ (self.old.0 ++ next.now, self.old.1 - length next.now)) }
         ensures refused { IfErr result (λ fault. (fault ≡ Memory) × (self.new ≡ self.old)) }
     {
         self.bytes.extend_from_slice(next)?;

@@ -63,7 +63,9 @@ impl Model for ViewerHello {
       sent = r.sent;
     } };
 
-    ghost invariant = { λ r. IsPrepared r.w r.h r.said.items × (length r.said.items ≤ LONGEST_HANDSHAKE) × (length r.begun.items ≤ VIEWER_LEN) × (r.sent ≤ due (length r.said.items) (length r.begun.items)) };
+    ghost invariant = { λ r. IsPrepared r.w r.h r.said.items
+        × (length r.said.items ≤ LONGEST_HANDSHAKE) × (length r.begun.items ≤ VIEWER_LEN)
+        × (r.sent ≤ due (length r.said.items) (length r.begun.items)) };
 }
 
 impl ViewerHello {
@@ -115,7 +117,8 @@ impl ViewerHello {
 
     /// What is answered once this many bytes were used.
     fn so_far(&self, used: usize) -> Result<usize, Fault>
-        ensures { MatchResult result (λ n. (n ≡ used) × (fault_of (ahead self.now) ≡ None)) (λ fault. fault_of (ahead self.now) ≡ Some fault) }
+        ensures { MatchResult result (λ n. (n ≡ used) × (fault_of (ahead self.now) ≡ None))
+            (λ fault. fault_of (ahead self.now) ≡ Some fault) }
     {
         match self.fault() {
             Some(fault) => Err(fault),
@@ -136,7 +139,9 @@ impl ViewerHello {
     /// `BadVersion` and `BadChoice` are answered as soon as the byte that shows them has come.
     pub fn feed(&mut self, piece: &[u8]) -> Result<usize, Fault>
         ensures reads { Feeds (ahead self.old) (ahead self.new) piece.now result }
-        ensures after { self.new ≡ record self.old { begun = self.old.begun ++ take (taken (ahead self.old) piece.now) piece.now } }
+        ensures after { self.new ≡ record self.old {
+          begun = self.old.begun ++ take (taken (ahead self.old) piece.now) piece.now;
+        } }
     {
         for (used, byte) in piece.iter().enumerate() {
             if !self.wants_more() {

@@ -212,7 +212,8 @@ pub fn write_server_text(text: &[u8], out: &mut [u8]) -> usize
 fn put_format_and_name(name: &[u8], out: &mut [u8]) -> usize
     requires few { length name.now < 2 ^ 32 }
     requires room { 20 + length name.now ≤ length out.old }
-    ensures { Writes (format_bytes host_format ++ to_be_bytes w32 (length name.now) ++ name.now) out.old out.new result }
+    ensures { Writes (format_bytes host_format ++ to_be_bytes w32 (length name.now) ++ name.now)
+        out.old out.new result }
 {
     let mut format = [0; 16];
     Format::HOST.write(&mut format);
@@ -249,7 +250,8 @@ pub(crate) const BEFORE_NAME_LEN: usize = 42;
 fn put_security_and_init(w: u16, h: u16, name: &[u8], out: &mut [u8]) -> usize
     requires few { length name.now < 2 ^ 32 }
     requires room { 30 + length name.now ≤ length out.old }
-    ensures { Writes ((1 ∷ 1 ∷ 0 ∷ 0 ∷ 0 ∷ 0 ∷ []) ++ server_init w h name.now) out.old out.new result }
+    ensures { Writes ((1 ∷ 1 ∷ 0 ∷ 0 ∷ 0 ∷ 0 ∷ []) ++ server_init w h name.now)
+        out.old out.new result }
 {
     let (front, back) = out.split_at_mut(SECURITY.len());
     front.copy_from_slice(&SECURITY);

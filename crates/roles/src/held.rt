@@ -116,9 +116,12 @@ impl Held {
     pub fn passes(&mut self, role: Role, message: &ClientMessage) -> bool
         ensures value { result ≡ passes_if self.old.keys (input_for role (message_of message.now)) }
         ensures kept { self.new ≡ kept_after self.old (input_for role (message_of message.now)) }
-        ensures stands { (messages : List client.ClientMessage) → HeldStands role self.old messages → HeldStands role self.new (messages ++ message_of message.now ∷ []) }
+        ensures stands { (messages : List client.ClientMessage) → HeldStands role self.old messages
+            → HeldStands role self.new (messages ++ message_of message.now ∷ []) }
         ensures allowed { (messages : List client.ClientMessage) → HeldStands role self.old messages
-            → allowed role (messages ++ message_of message.now ∷ []) false ≡ allowed role messages false ++ passed_if result (input_for role (message_of message.now)) }
+            → allowed role (messages ++ message_of message.now ∷ []) false
+            ≡ allowed role messages false
+            ++ passed_if result (input_for role (message_of message.now)) }
     {
         match role {
             Role::View => false,
@@ -186,7 +189,8 @@ impl Held {
     /// the last position if the last mask wasn't 0. After the last release it answers `None` and changes nothing. It
     /// takes no memory.
     pub fn release(&mut self) -> Option<Input>
-        ensures next { MatchOption result ((left_in self.old ≡ []) × (self.new ≡ self.old)) (λ input. left_in self.old ≡ input_in input ∷ left_in self.new) }
+        ensures next { MatchOption result ((left_in self.old ≡ []) × (self.new ≡ self.old))
+            (λ input. left_in self.old ≡ input_in input ∷ left_in self.new) }
     {
         if !self.keys.is_empty() {
             let key = self.keys.remove(0);

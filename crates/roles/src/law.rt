@@ -10,7 +10,9 @@ ghost use Rattle.roles.specs.Strokes.{Taken, input_from, sent_by, has_down, unbr
 
 /// Where a viewer leaves, what passed of its messages and then what `Held::release` gives is all that is allowed.
 pub fn releases_are_allowed()
-    ensures { (role : Role) (held : Kept) (messages : List ClientMessage) → HeldStands role held messages → allowed role messages true ≡ allowed role messages false ++ left_in held }
+    ensures { (role : Role) (held : Kept) (messages : List ClientMessage)
+        → HeldStands role held messages
+        → allowed role messages true ≡ allowed role messages false ++ left_in held }
 {}
 
 /// What passes of the input of several places.
@@ -21,9 +23,15 @@ pub fn releases_are_allowed()
 /// allowed passes, with the releases once it has left. Each input that doesn't pass is counted for the place that sent
 /// it.
 pub fn strokes_are_whole()
-    ensures picked { (place : ℕ) (taken : List Taken) → IsPickedFrom (sent_by place (unbroken taken)) (sent_by place taken) }
-    ensures whole { (taken before after : List Taken) (t : Taken) → unbroken taken ≡ before ++ t ∷ after → (place : ℕ) → place ≢ t.place → has_down place before ≡ false }
+    ensures picked { (place : ℕ) (taken : List Taken)
+        → IsPickedFrom (sent_by place (unbroken taken)) (sent_by place taken) }
+    ensures whole { (taken before after : List Taken) (t : Taken)
+        → unbroken taken ≡ before ++ t ∷ after
+        → (place : ℕ) → place ≢ t.place
+        → has_down place before ≡ false }
     ensures alone { (place : ℕ) (role : Role) (messages : List ClientMessage) (left : Bool)
-        → unbroken (map (input_from place) (allowed role messages left)) ≡ map (input_from place) (allowed role messages left) }
-    ensures counted { (place : ℕ) (taken : List Taken) → dropped place taken ≡ min LIMIT (length (sent_by place taken) - length (sent_by place (unbroken taken))) }
+        → unbroken (map (input_from place) (allowed role messages left))
+        ≡ map (input_from place) (allowed role messages left) }
+    ensures counted { (place : ℕ) (taken : List Taken) → dropped place taken
+        ≡ min LIMIT (length (sent_by place taken) - length (sent_by place (unbroken taken))) }
 {}

@@ -20,5 +20,6 @@ pub trait InputSink {
     /// is no room now, with another fault where there will never be room again.
     fn send(&mut self, input: Input) -> Result<(), (Fault, Input)>
         ensures ok { OnOk result (sent self.new ≡ sent self.old ++ input_in input ∷ []) }
-        ensures err { IfErr result (λ refused. (sent self.new ≡ sent self.old) × (refused.1 ≡ input) × may_refuse refused.0) };
+        ensures err { IfErr result (λ refused.
+            (sent self.new ≡ sent self.old) × (refused.1 ≡ input) × may_refuse refused.0) };
 }

@@ -74,10 +74,13 @@ impl Strokes {
     /// It passes where no other place has a key or a button down, unless it releases a key that its own place doesn't
     /// have down, or presses a further key while that place has 64 down. An input that doesn't pass is counted.
     pub fn passes(&mut self, place: u64, input: &Input) -> bool
-        ensures value { (taken : List Taken) → StrokesStand self.old taken → result ≡ passes_after (unbroken taken) (input_from place (input_in input.now)) }
+        ensures value { (taken : List Taken) → StrokesStand self.old taken
+            → result ≡ passes_after (unbroken taken) (input_from place (input_in input.now)) }
         ensures unbroken { (taken : List Taken) → StrokesStand self.old taken
-            → unbroken (taken ++ input_from place (input_in input.now) ∷ []) ≡ unbroken taken ++ (if result then input_from place (input_in input.now) ∷ [] else []) }
-        ensures stands { (taken : List Taken) → StrokesStand self.old taken → StrokesStand self.new (taken ++ input_from place (input_in input.now) ∷ []) }
+            → unbroken (taken ++ input_from place (input_in input.now) ∷ []) ≡ unbroken taken
+            ++ (if result then input_from place (input_in input.now) ∷ [] else []) }
+        ensures stands { (taken : List Taken) → StrokesStand self.old taken
+            → StrokesStand self.new (taken ++ input_from place (input_in input.now) ∷ []) }
         ensures places { length self.new.counts ≡ length self.old.counts }
     {
         let passes = self.lets(place, input);
@@ -90,7 +93,8 @@ impl Strokes {
     /// How many inputs of this place didn't pass, at most `LIMIT`. It takes no memory.
     pub fn dropped(&self, place: u64) -> u64
         requires { place < length self.now.counts }
-        ensures { (taken : List Taken) → StrokesStand self.now taken → result ≡ dropped place taken }
+        ensures { (taken : List Taken) → StrokesStand self.now taken
+            → result ≡ dropped place taken }
     {
         self.counts[place as usize]
     }

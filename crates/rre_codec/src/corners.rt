@@ -20,7 +20,10 @@ fn count_corners(row: &[u32], above: &[u32], background: u32) -> u32
     requires some { 0 < length row.now }
     requires same { length above.now ≡ length row.now }
     requires small { length row.now < 2 ^ 16 }
-    ensures value { (canvas : Canvas) (y : ℕ) → ((x : ℕ) → x < length row.now → slice_index row.now x ≡ canvas x y) → ((x : ℕ) → x < length row.now → slice_index above.now x ≡ canvas x (y - 1)) → result ≡ corners_before canvas background y (length row.now) }
+    ensures value { (canvas : Canvas) (y : ℕ)
+        → ((x : ℕ) → x < length row.now → slice_index row.now x ≡ canvas x y)
+        → ((x : ℕ) → x < length row.now → slice_index above.now x ≡ canvas x (y - 1))
+        → result ≡ corners_before canvas background y (length row.now) }
     ensures few { result < 2 ^ 16 }
 {
     let mut corners = 0;
@@ -40,7 +43,8 @@ pub fn has_joined(values: &[u32], w: usize, h: usize, enough: u64) -> bool
     requires wide { w < 2 ^ 16 }
     requires high { h < 2 ^ 16 }
     requires count { length values.now ≡ w * h }
-    ensures { let canvas = value_at w values.now in IsTrue result → enough ≤ length (joined_runs canvas (canvas 0 0) w h) }
+    ensures { let canvas = value_at w values.now in
+        IsTrue result → enough ≤ length (joined_runs canvas (canvas 0 0) w h) }
 {
     let background = values[0];
     let mut count: u64 = 0;

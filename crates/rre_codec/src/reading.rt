@@ -25,7 +25,9 @@ fn draw_head<C: Canvas>(format: &Format, w: u64, h: u64, bytes: &[u8], canvas: &
     ensures width { C.width canvas.new ≡ w }
     ensures height { C.height canvas.new ≡ h }
     ensures stays { C.Stays canvas.old canvas.new }
-    ensures drawn { (sofar : Drawing) → Leads C.keeps format.now w h Stage.Head result bytes.now (C.shows canvas.old) (C.shows canvas.new) sofar }
+    ensures drawn { (sofar : Drawing)
+        → Leads C.keeps format.now w h Stage.Head result bytes.now
+        (C.shows canvas.old) (C.shows canvas.new) sofar }
 {
     let (count, background) = bytes.split_at(COUNT_LEN);
     let count = u32::from_be_bytes([count[0], count[1], count[2], count[3]]);
@@ -50,7 +52,9 @@ fn draw_subrect<C: Canvas>(
     ensures width { C.width canvas.new ≡ w }
     ensures height { C.height canvas.new ≡ h }
     ensures stays { C.Stays canvas.old canvas.new }
-    ensures drawn { (sofar : Drawing) → Leads C.keeps format.now w h (Stage.Subrects left) result bytes.now (C.shows canvas.old) (C.shows canvas.new) sofar }
+    ensures drawn { (sofar : Drawing)
+        → Leads C.keeps format.now w h (Stage.Subrects left) result bytes.now
+        (C.shows canvas.old) (C.shows canvas.new) sofar }
 {
     let (value, place) = bytes.split_at(format.bytes());
     let area = Rect::read(place);
@@ -78,7 +82,9 @@ fn draw<C: Canvas>(
     ensures width { C.width canvas.new ≡ w }
     ensures height { C.height canvas.new ≡ h }
     ensures stays { C.Stays canvas.old canvas.new }
-    ensures drawn { (sofar : Drawing) → Leads C.keeps format.now w h stage result bytes.now (C.shows canvas.old) (C.shows canvas.new) sofar }
+    ensures drawn { (sofar : Drawing)
+        → Leads C.keeps format.now w h stage result bytes.now
+        (C.shows canvas.old) (C.shows canvas.new) sofar }
 {
     match stage {
         Stage::Head => draw_head(format, w, h, bytes, canvas),
@@ -106,7 +112,9 @@ fn draw_fields<C: Canvas>(
     ensures width { C.width canvas.new ≡ w }
     ensures height { C.height canvas.new ≡ h }
     ensures stays { C.Stays canvas.old canvas.new }
-    ensures drawn { (sofar : Drawing) → Leads C.keeps format.now w h stage result.0 (take result.1 bytes.now) (C.shows canvas.old) (C.shows canvas.new) sofar }
+    ensures drawn { (sofar : Drawing)
+        → Leads C.keeps format.now w h stage result.0 (take result.1 bytes.now)
+        (C.shows canvas.old) (C.shows canvas.new) sofar }
 {
     let mut stage = stage;
     let mut rest = bytes;
@@ -135,7 +143,13 @@ impl Model for Reader {
 
     ghost Value = { Progress };
 
-    ghost view = { λ r. record { format = r.format; width = r.width; height = r.height; stage = r.stage; begun = r.begun.items } };
+    ghost view = { λ r. record {
+      format = r.format;
+      width = r.width;
+      height = r.height;
+      stage = r.stage;
+      begun = r.begun.items;
+    } };
 
     ghost invariant = { λ r. length r.begun.items < needed r.format r.stage };
 }
@@ -147,7 +161,8 @@ impl Reader {
         ensures width { result.width ≡ w }
         ensures height { result.height ≡ h }
         ensures begins { (sofar : Drawing) → ahead result sofar ≡ rre format w h }
-        ensures stands { (keeps : ℕ → ℕ) (canvas : Map ℕ) (sofar : Drawing) → Stands keeps result canvas sofar }
+        ensures stands { (keeps : ℕ → ℕ) (canvas : Map ℕ) (sofar : Drawing)
+            → Stands keeps result canvas sofar }
     {
         Reader {
             format,
@@ -161,7 +176,10 @@ impl Reader {
     /// Whether the rectangle is read to its end.
     pub fn whole(&self) -> bool
         ensures whole { (sofar : Drawing) → result ≡ is_some (whole_of (ahead self.now sofar)) }
-        ensures shows { (keeps : ℕ → ℕ) (canvas : Map ℕ) (sofar drawing : Drawing) → Stands keeps self.now canvas sofar → ahead self.now sofar ≡ Done drawing → LooksLike self.now.width self.now.height canvas (kept keeps (drawn drawing)) }
+        ensures shows { (keeps : ℕ → ℕ) (canvas : Map ℕ) (sofar drawing : Drawing)
+            → Stands keeps self.now canvas sofar
+            → ahead self.now sofar ≡ Done drawing
+            → LooksLike self.now.width self.now.height canvas (kept keeps (drawn drawing)) }
     {
         match self.stage {
             Stage::Subrects(left) => left == 0,
@@ -183,7 +201,9 @@ impl Reader {
         ensures within { IfOk result (λ used. used ≤ length piece.now) }
         ensures some { IsWanting self.old → 0 < length piece.now → IfOk result (λ used. 0 < used) }
         ensures fine { OnOk result ((sofar : Drawing) → fault_of (ahead self.new sofar) ≡ None) }
-        ensures drawn { (sofar : Drawing) → Stands C.keeps self.old (C.shows canvas.old) sofar → Draws ahead (Stands C.keeps) self.old self.new (C.shows canvas.new) piece.now result sofar }
+        ensures drawn { (sofar : Drawing) → Stands C.keeps self.old (C.shows canvas.old) sofar
+            → Draws ahead (Stands C.keeps) self.old self.new (C.shows canvas.new)
+            piece.now result sofar }
     {
         read_piece(self, canvas, piece)
     }

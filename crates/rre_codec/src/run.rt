@@ -21,7 +21,8 @@ const LANES: usize = 16;
 fn same_from(values: &[u32], from: usize, value: u32) -> usize
     requires { from + LANES ≤ length values.now }
     ensures few { result ≤ LANES }
-    ensures same { (k : ℕ) → from ≤ k → k < from + result → slice_index values.now k == value ≡ true }
+    ensures same { (k : ℕ) → from ≤ k → k < from + result
+        → slice_index values.now k == value ≡ true }
     ensures stops { result < LANES → slice_index values.now (from + result) == value ≡ false }
 {
     let next = u32x16::from_slice(&values[from..]);
@@ -63,7 +64,8 @@ pub fn put_run(format: &Format, run: &RowRun, high: usize, out: &mut [u8], used:
     requires len { run.now.len < 2 ^ 16 }
     requires high { high < 2 ^ 16 }
     requires room { used + pixel_len format.now + RECT_LEN ≤ length out.old }
-    ensures { take (used + pixel_len format.now + RECT_LEN) out.new ≡ take used out.old ++ rre_subrect_bytes format.now (subrect_as_high run.now high) }
+    ensures { take (used + pixel_len format.now + RECT_LEN) out.new
+        ≡ take used out.old ++ rre_subrect_bytes format.now (subrect_as_high run.now high) }
 {
     let place = Rect {
         x: run.x as u64,

@@ -48,7 +48,8 @@ fn put_subrect(
     requires row { run.now.y < h }
     requires len { run.now.len < 2 ^ 16 }
     requires room { used < length out.old }
-    ensures { Puts (take used out.old ++ flat_map (rre_subrect_bytes format.now) (written form (value_at w values.now) w h (subrect_of run.now ∷ []))) out.old out.new result }
+    ensures { Puts (take used out.old ++ flat_map (rre_subrect_bytes format.now) (written form
+        (value_at w values.now) w h (subrect_of run.now ∷ []))) out.old out.new result }
 {
     let Some(high) = height(form, values, w, &whole(w, h), run) else {
         return Some(used);
@@ -79,7 +80,9 @@ fn put_row(
     requires row { y < h }
     requires count { length values.now ≡ w * h }
     requires room { used < length out.old }
-    ensures { let canvas = value_at w values.now in Puts (take used out.old ++ flat_map (rre_subrect_bytes format.now) (written form canvas w h (runs_of_row canvas background w y))) out.old out.new result }
+    ensures { let canvas = value_at w values.now in
+        Puts (take used out.old ++ flat_map (rre_subrect_bytes format.now)
+        (written form canvas w h (runs_of_row canvas background w y))) out.old out.new result }
 {
     let row = &values[y * w..y * w + w];
     let mut end = used;
@@ -111,7 +114,10 @@ fn put_runs(
     requires count { length values.now ≡ w * h }
     requires some { 0 < length values.now }
     requires room { COUNT_LEN + pixel_len format.now < length out.old }
-    ensures { let canvas = value_at w values.now in Puts (take COUNT_LEN out.old ++ pixel_bytes format.now (canvas 0 0) ++ flat_map (rre_subrect_bytes format.now) (written form canvas w h (runs canvas w h))) out.old out.new result }
+    ensures { let canvas = value_at w values.now in
+        Puts (take COUNT_LEN out.old ++ pixel_bytes format.now (canvas 0 0)
+        ++ flat_map (rre_subrect_bytes format.now) (written form canvas w h (runs canvas w h)))
+        out.old out.new result }
 {
     let background = values[0];
     format.put_pixel(background, &mut out[COUNT_LEN..]);
@@ -130,7 +136,8 @@ fn has_many(form: Runs, values: &[u32], w: usize, h: usize, enough: u64) -> bool
     requires wide { w < 2 ^ 16 }
     requires high { h < 2 ^ 16 }
     requires count { length values.now ≡ w * h }
-    ensures { let canvas = value_at w values.now in IsTrue result → enough ≤ length (written form canvas w h (runs canvas w h)) }
+    ensures { let canvas = value_at w values.now in
+        IsTrue result → enough ≤ length (written form canvas w h (runs canvas w h)) }
 {
     match form {
         Runs::OfRows => has_runs(values, w, &whole(w, h), enough),

@@ -62,7 +62,8 @@ impl Doors {
 
     /// Open doors with this many places, all of them free. It fails where memory for the places is refused.
     pub fn new(alloc: Global, places: usize) -> Result<Doors, AllocError>
-        ensures { IfOk result (λ doors. doors ≡ record { entry = Entry.Open; places = replicate places Place.Free }) }
+        ensures { IfOk result (λ doors.
+            doors ≡ record { entry = Entry.Open; places = replicate places Place.Free }) }
     {
         Ok(Doors {
             entry: Entry::Open,

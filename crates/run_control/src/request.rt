@@ -46,7 +46,8 @@ impl Request {
     /// Reads a line, without its line feed. It answers `None` where the line is no request.
     pub fn read(line: &str) -> Option<Request>
         ensures says { IfSome result (λ request. IsInRange request × Says request line.now) }
-        ensures none { IfNone result ((request : declared.Request) → IsInRange request → ¬ Says request line.now) }
+        ensures none { IfNone result
+            ((request : declared.Request) → IsInRange request → ¬ Says request line.now) }
     {
         match line {
             "state" => Some(Request::State(Form::Text)),
@@ -63,7 +64,8 @@ impl Request {
 /// `end PLACE`: the viewer of this place is asked to leave.
 fn end_request(line: &str) -> Option<Request>
     ensures found { IfSome result (λ request. IsInRange request × Says request line.now) }
-    ensures none { IfNone result ((place : ℕ) → place < 2 ^ 64 → ¬ Says (request.End place) line.now) }
+    ensures none { IfNone result
+        ((place : ℕ) → place < 2 ^ 64 → ¬ Says (request.End place) line.now) }
 {
     let place = line.strip_prefix("end ")?;
     let place = number(place)?;
@@ -83,7 +85,8 @@ fn call_in(role: Role) -> &'static str
 /// `call full IP:PORT` or `call view IP:PORT`: the viewer that listens there is called in this role.
 fn call_request(line: &str, role: Role) -> Option<Request>
     ensures found { IfSome result (λ request. IsInRange request × Says request line.now) }
-    ensures none { IfNone result ((address : Address) → 0 < socket_port address → ¬ Says (request.Call role address) line.now) }
+    ensures none { IfNone result ((address : Address) → 0 < socket_port address
+        → ¬ Says (request.Call role address) line.now) }
 {
     let said = line.strip_prefix(call_in(role))?;
     let address = callable(said)?;
@@ -94,8 +97,10 @@ fn call_request(line: &str, role: Role) -> Option<Request>
 #[tactic(auto, using(crate::proofs::Calls::in_neither_role))]
 fn longer_request(line: &str) -> Option<Request>
     ensures found { IfSome result (λ request. IsInRange request × Says request line.now) }
-    ensures no_end { IfNone result ((place : ℕ) → place < 2 ^ 64 → ¬ Says (request.End place) line.now) }
-    ensures no_call { IfNone result ((role : Roles) (address : Address) → 0 < socket_port address → ¬ Says (request.Call role address) line.now) }
+    ensures no_end { IfNone result
+        ((place : ℕ) → place < 2 ^ 64 → ¬ Says (request.End place) line.now) }
+    ensures no_call { IfNone result ((role : Roles) (address : Address) → 0 < socket_port address
+        → ¬ Says (request.Call role address) line.now) }
 {
     if let Some(request) = end_request(line) {
         return Some(request);
@@ -109,8 +114,10 @@ fn longer_request(line: &str) -> Option<Request>
 /// The address that a text says, with a port at which somebody may listen.
 #[tactic(auto, using(crate::proofs::Calls::no_port))]
 fn callable(text: &str) -> Option<SocketAddr>
-    ensures found { IfSome result (λ address. IsSocketText text.now address × (0 < socket_port address)) }
-    ensures none { IfNone result ((address : Address) → 0 < socket_port address → ¬ IsSocketText text.now address) }
+    ensures found { IfSome result (λ address.
+        IsSocketText text.now address × (0 < socket_port address)) }
+    ensures none { IfNone result
+        ((address : Address) → 0 < socket_port address → ¬ IsSocketText text.now address) }
 {
     let address = text.parse::<SocketAddr>().ok()?;
     if address.port() == 0 {
@@ -121,7 +128,8 @@ fn callable(text: &str) -> Option<SocketAddr>
 
 /// Whether a text has a plus or a leading zero, which `parse` would take.
 fn is_padded(text: &[u8]) -> bool
-    ensures { result ≡ ((slice_index text.now 0 == 43) || ((slice_index text.now 0 == 48) && nat_lt 1 (length text.now))) }
+    ensures { result ≡ ((slice_index text.now 0 == 43)
+        || ((slice_index text.now 0 == 48) && nat_lt 1 (length text.now))) }
 {
     !text.is_empty() && (text[0] == b'+' || (text[0] == b'0' && text.len() > 1))
 }

@@ -19,7 +19,8 @@ pub(crate) struct Family<'a> {
 
 /// Puts the head of a family, which says what it is.
 pub(crate) fn put_head(text: &mut String, family: Family<'_>) -> Result<(), AllocError>
-    ensures { OnOk result (string_bytes text.new ≡ after_head (string_bytes text.old) family.entry) }
+    ensures { OnOk result
+        (string_bytes text.new ≡ after_head (string_bytes text.old) family.entry) }
 {
     text.push_str("# HELP reflectord_")?;
     text.push_str(family.name)?;
@@ -39,7 +40,8 @@ pub(crate) fn put_sample(
     labels: &str,
     number: u64,
 ) -> Result<(), AllocError>
-    ensures { OnOk result (string_bytes text.new ≡ after_sample (string_bytes text.old) name.now labels.now number) }
+    ensures { OnOk result
+        (string_bytes text.new ≡ after_sample (string_bytes text.old) name.now labels.now number) }
 {
     text.push_str("reflectord_")?;
     text.push_str(name)?;
@@ -55,7 +57,8 @@ pub(crate) fn put_single(
     family: Family<'_>,
     number: u64,
 ) -> Result<(), AllocError>
-    ensures { OnOk result (string_bytes text.new ≡ after_single (string_bytes text.old) family.entry number) }
+    ensures { OnOk result
+        (string_bytes text.new ≡ after_single (string_bytes text.old) family.entry number) }
 {
     put_head(text, family)?;
     put_sample(text, family.name, "", number)
@@ -67,7 +70,8 @@ pub(crate) fn put_by_role(
     family: Family<'_>,
     numbers: ByRole,
 ) -> Result<(), AllocError>
-    ensures { OnOk result (string_bytes text.new ≡ after_by_role (string_bytes text.old) family.entry numbers) }
+    ensures { OnOk result
+        (string_bytes text.new ≡ after_by_role (string_bytes text.old) family.entry numbers) }
 {
     put_head(text, family)?;
     put_sample(text, family.name, "{role=\"full\"}", numbers.full)?;

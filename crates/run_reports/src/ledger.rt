@@ -73,8 +73,13 @@ impl<P: Paper> Ledger<P> {
     /// Writes a line that is given without its end, and after it how many lines were left out before, if some were. A
     /// line for which there is no room or no memory is left out and counted. It answers whether the line was written.
     pub fn write(&mut self, line: String) -> bool
-        ensures written { result ≡ true → (P.text self.new.paper ≡ P.text self.old.paper ++ after_line (string_bytes line) self.old.lost) × (self.new.lost ≡ 0) }
-        ensures left_out { result ≡ false → (P.text self.new.paper ≡ P.text self.old.paper) × (self.new.lost ≡ counted self.old.lost) }
+        ensures written { result ≡ true
+            → (P.text self.new.paper
+            ≡ P.text self.old.paper ++ after_line (string_bytes line) self.old.lost)
+            × (self.new.lost ≡ 0) }
+        ensures left_out { result ≡ false
+            → (P.text self.new.paper ≡ P.text self.old.paper)
+            × (self.new.lost ≡ counted self.old.lost) }
     {
         let mut line = line;
         if self.paper.has_room()

@@ -53,7 +53,8 @@ pub(crate) fn yes_word(is: bool) -> &'static str
 
 /// Puts the text that goes before a word, and then the word.
 pub(crate) fn put_word(text: &mut String, before: &str, word: &str) -> Result<(), AllocError>
-    ensures { OnOk result (string_bytes text.new ≡ string_bytes text.old ++ before.now ++ word.now) }
+    ensures { OnOk result
+        (string_bytes text.new ≡ string_bytes text.old ++ before.now ++ word.now) }
 {
     text.push_str(before)?;
     text.push_str(word)
@@ -61,7 +62,8 @@ pub(crate) fn put_word(text: &mut String, before: &str, word: &str) -> Result<()
 
 /// Puts the text that goes before a number, and then the number.
 pub(crate) fn put_number(text: &mut String, before: &str, number: u64) -> Result<(), AllocError>
-    ensures { OnOk result (string_bytes text.new ≡ string_bytes text.old ++ before.now ++ decimal number) }
+    ensures { OnOk result
+        (string_bytes text.new ≡ string_bytes text.old ++ before.now ++ decimal number) }
 {
     text.push_str(before)?;
     text.push_str(Buffer::new().format(number))

@@ -106,7 +106,8 @@ const LAG: Family<'static> = Family {
 
 /// Writes the numbers of the host.
 fn put_host(text: &mut String, counters: &Counters) -> Result<(), AllocError>
-    ensures { OnOk result (string_bytes text.new ≡ after_host (string_bytes text.old) counters.now) }
+    ensures { OnOk result
+        (string_bytes text.new ≡ after_host (string_bytes text.old) counters.now) }
 {
     put_single(text, HOST_JOINED, u64::from(counters.is_joined))?;
     put_single(text, HOST_SILENT, counters.silent_seconds)?;
@@ -115,7 +116,8 @@ fn put_host(text: &mut String, counters: &Counters) -> Result<(), AllocError>
 
 /// Writes the numbers of the places.
 fn put_places(text: &mut String, counters: &Counters) -> Result<(), AllocError>
-    ensures { OnOk result (string_bytes text.new ≡ after_places (string_bytes text.old) counters.now) }
+    ensures { OnOk result
+        (string_bytes text.new ≡ after_places (string_bytes text.old) counters.now) }
 {
     put_by_role(text, PLACES, counters.places)?;
     put_by_role(text, VIEWERS, counters.viewers)?;
@@ -125,7 +127,8 @@ fn put_places(text: &mut String, counters: &Counters) -> Result<(), AllocError>
 
 /// Writes the numbers of what came and what was sent.
 fn put_sent(text: &mut String, counters: &Counters) -> Result<(), AllocError>
-    ensures { OnOk result (string_bytes text.new ≡ after_sent (string_bytes text.old) counters.now) }
+    ensures { OnOk result
+        (string_bytes text.new ≡ after_sent (string_bytes text.old) counters.now) }
 {
     put_single(text, UPDATES, counters.updates)?;
     put_single(text, ANSWERS, counters.answers)?;
@@ -134,7 +137,8 @@ fn put_sent(text: &mut String, counters: &Counters) -> Result<(), AllocError>
 
 /// Writes the numbers of the viewers' input.
 fn put_input(text: &mut String, counters: &Counters) -> Result<(), AllocError>
-    ensures { OnOk result (string_bytes text.new ≡ after_input (string_bytes text.old) counters.now) }
+    ensures { OnOk result
+        (string_bytes text.new ≡ after_input (string_bytes text.old) counters.now) }
 {
     put_single(text, WAITING, counters.waiting)?;
     put_single(text, DROPPED, counters.dropped)
@@ -142,7 +146,8 @@ fn put_input(text: &mut String, counters: &Counters) -> Result<(), AllocError>
 
 /// Writes the numbers of the recording.
 fn put_recorded(text: &mut String, recorded: &Recorded) -> Result<(), AllocError>
-    ensures { OnOk result (string_bytes text.new ≡ after_recorded (string_bytes text.old) recorded.now) }
+    ensures { OnOk result
+        (string_bytes text.new ≡ after_recorded (string_bytes text.old) recorded.now) }
 {
     put_single(text, RECORDING, u64::from(recorded.is_on))?;
     put_single(text, RECORDING_FAILED, u64::from(recorded.has_failed))?;

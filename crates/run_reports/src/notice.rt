@@ -54,7 +54,8 @@ fn put_host(text: &mut String, notice: &Notice<'_>) -> Result<(), AllocError>
 
 /// Puts how the run stands.
 fn put_status(text: &mut String, notice: &Notice<'_>) -> Result<(), AllocError>
-    ensures { OnOk result (string_bytes text.new ≡ after_status (string_bytes text.old) notice.now) }
+    ensures { OnOk result
+        (string_bytes text.new ≡ after_status (string_bytes text.old) notice.now) }
 {
     text.push_str("STATUS=")?;
     put_host(text, notice)?;

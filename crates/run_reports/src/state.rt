@@ -33,7 +33,8 @@ fn put_place(text: &mut String, viewer: &ViewerReport<'_>) -> Result<(), AllocEr
 
 /// Puts what is counted of a viewer.
 fn put_counts(text: &mut String, viewer: &ViewerReport<'_>) -> Result<(), AllocError>
-    ensures { OnOk result (string_bytes text.new ≡ after_counts (string_bytes text.old) viewer.now) }
+    ensures { OnOk result
+        (string_bytes text.new ≡ after_counts (string_bytes text.old) viewer.now) }
 {
     put_number(text, " seconds=", viewer.seconds)?;
     put_number(text, " updates=", viewer.updates)?;
@@ -43,7 +44,8 @@ fn put_counts(text: &mut String, viewer: &ViewerReport<'_>) -> Result<(), AllocE
 
 /// Puts the line of a viewer.
 fn put_viewer(text: &mut String, viewer: &ViewerReport<'_>) -> Result<(), AllocError>
-    ensures { OnOk result (string_bytes text.new ≡ after_viewer (string_bytes text.old) viewer.now) }
+    ensures { OnOk result
+        (string_bytes text.new ≡ after_viewer (string_bytes text.old) viewer.now) }
 {
     put_place(text, viewer)?;
     put_counts(text, viewer)?;
@@ -54,7 +56,8 @@ fn put_viewer(text: &mut String, viewer: &ViewerReport<'_>) -> Result<(), AllocE
 /// Puts a line for each viewer.
 #[tactic(auto, using(crate::proofs::Viewers::one_more))]
 fn put_viewers(text: &mut String, viewers: &[ViewerReport<'_>]) -> Result<(), AllocError>
-    ensures { OnOk result (string_bytes text.new ≡ after_viewers (string_bytes text.old) viewers.now) }
+    ensures { OnOk result
+        (string_bytes text.new ≡ after_viewers (string_bytes text.old) viewers.now) }
 {
     for viewer in viewers {
         put_viewer(text, viewer)?;
@@ -64,7 +67,8 @@ fn put_viewers(text: &mut String, viewers: &[ViewerReport<'_>]) -> Result<(), Al
 
 /// Puts what is told first: whether viewers are let in, and how many places there are.
 fn put_places(text: &mut String, report: &Report<'_>) -> Result<(), AllocError>
-    ensures { OnOk result (string_bytes text.new ≡ after_places (string_bytes text.old) report.now) }
+    ensures { OnOk result
+        (string_bytes text.new ≡ after_places (string_bytes text.old) report.now) }
 {
     put_word(text, "entry ", entry_word(report.entry))?;
     put_number(text, "\nplaces role=full places=", report.full_places)?;
@@ -93,7 +97,8 @@ fn put_whoever(text: &mut String, host: &Option<HostReport<'_>>) -> Result<(), A
 
 /// Puts the line of the recording that is played, where one is.
 fn put_played(text: &mut String, played: &Option<PlayedReport<'_>>) -> Result<(), AllocError>
-    ensures { OnOk result (string_bytes text.new ≡ after_played (string_bytes text.old) played.now) }
+    ensures { OnOk result
+        (string_bytes text.new ≡ after_played (string_bytes text.old) played.now) }
 {
     let Some(played) = played else {
         return Ok(());
@@ -105,7 +110,8 @@ fn put_played(text: &mut String, played: &Option<PlayedReport<'_>>) -> Result<()
 
 /// Puts the line of the recording, where the run is recorded.
 fn put_recording(text: &mut String, recording: &Option<RecordingReport>) -> Result<(), AllocError>
-    ensures { OnOk result (string_bytes text.new ≡ after_recording (string_bytes text.old) recording.now) }
+    ensures { OnOk result
+        (string_bytes text.new ≡ after_recording (string_bytes text.old) recording.now) }
 {
     let Some(recording) = recording else {
         return Ok(());

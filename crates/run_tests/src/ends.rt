@@ -64,7 +64,8 @@ fn shows<J: Naming>(
     view: &View,
     last: u64,
 ) -> Result<bool, Fault>
-    requires { IsScreenSize view.now.w view.now.h × (view.now.w ≡ J.width) × (view.now.h ≡ J.height) }
+    requires { IsScreenSize view.now.w view.now.h
+        × (view.now.w ≡ J.width) × (view.now.h ≡ J.height) }
 {
     let all = Rect {
         x: 0,
@@ -104,8 +105,10 @@ where
     H: Drop,
     D: Door,
     R: Threads + Wait + Drop + Copy,
-    requires screen { IsScreenSize view.now.w view.now.h × (view.now.w ≡ J.width) × (view.now.h ≡ J.height) }
-    requires relay { All (λ place. relay_of place.promise.sender.value ≡ host_of running.taker) running.places.items }
+    requires screen { IsScreenSize view.now.w view.now.h
+        × (view.now.w ≡ J.width) × (view.now.h ≡ J.height) }
+    requires relay { All (λ place. relay_of place.promise.sender.value ≡ host_of running.taker)
+        running.places.items }
 {
     let Running {
         ran: _,
@@ -180,7 +183,8 @@ where
     J: Naming + Publishes + Send + Sync + 'static,
     R: Threads + Wait + Clock + Copy + Drop + Send + 'static,
     requires history { history.seen.book ≡ J.book }
-    requires screen { IsScreenSize course.now.view.now.w course.now.view.now.h × (course.now.view.now.w ≡ J.width) × (course.now.view.now.h ≡ J.height) }
+    requires screen { IsScreenSize course.now.view.now.w course.now.view.now.h
+        × (course.now.view.now.w ≡ J.width) × (course.now.view.now.h ≡ J.height) }
 {
     let mut name = ArrayVec::new();
     name.push(b'T');

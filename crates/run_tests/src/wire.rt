@@ -24,7 +24,12 @@ impl Model for Wire {
 
     ghost Value = { LinkState };
 
-    ghost view = { λ w. record { taken = w.taken.bytes; given = w.given.bytes; failed = w.failures; ended = w.ends } };
+    ghost view = { λ w. record {
+      taken = w.taken.bytes;
+      given = w.given.bytes;
+      failed = w.failures;
+      ended = w.ends;
+    } };
 
     ghost invariant = { λ w. (w.failures ≤ 2 ^ 62) × (w.ends ≤ 2 ^ 62) };
 }

@@ -55,7 +55,8 @@ impl<A: Door, B: Door> Door for EitherDoor<A, B> {
         answers: u64,
         why: Result<(), Fault>,
     )
-        ensures { sees_off_either A.sees_off B.sees_off self.old (either_state A.Viewer.state B.Viewer.state viewer.link) why self.new }
+        ensures { sees_off_either A.sees_off B.sees_off self.old
+            (either_state A.Viewer.state B.Viewer.state viewer.link) why self.new }
     {
         match (self, viewer.either()) {
             (EitherDoor::First(door), EitherLeft::First(link)) => door.left(link, answers, why),

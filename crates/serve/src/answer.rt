@@ -122,7 +122,11 @@ where
         &journal,
         settings,
         move || -> Result<Ended, Trouble>
-            requires { HasPlaces settings.now × IfOk opened (λ opened. (is_some opened.password ≡ is_some settings.now.host_password) × AreBoth settings.now opened.entrances.full opened.entrances.view × (is_some opened.tape ≡ is_some settings.now.recording)) }
+            requires { HasPlaces settings.now
+                × IfOk opened (λ opened.
+                (is_some opened.password ≡ is_some settings.now.host_password)
+                × AreBoth settings.now opened.entrances.full opened.entrances.view
+                × (is_some opened.tape ≡ is_some settings.now.recording)) }
             ensures { IfOk result (λ ended. IsEndBy settings.entry.now ended) }
         { run_watched(rt, alloc, settings, opened?, &log) },
     )

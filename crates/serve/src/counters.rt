@@ -120,7 +120,8 @@ pub(crate) fn counters_of(
     inputs: Inputs,
     recorded: Recorded,
 ) -> Result<Counters, AllocError>
-    ensures { IfOk result (λ counters. AreCounters run_card.entry.now counts.now places inputs recorded counters) }
+    ensures { IfOk result (λ counters.
+        AreCounters run_card.entry.now counts.now places inputs recorded counters) }
 {
     Ok(Counters {
         is_joined: run_card.host.is_some(),

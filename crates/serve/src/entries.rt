@@ -93,7 +93,8 @@ where
     G: Log,
     ensures asked { AsksForPeople settings.now ports.old ports.new }
     ensures both { IfOk result (λ entrances. AreBoth settings.now entrances.full entrances.view) }
-    ensures null { IfOk result (λ entrances. All (λ entry. ¬ (LetsNullIn entry)) entrances.web.items) }
+    ensures null { IfOk result (λ entrances.
+        All (λ entry. ¬ (LetsNullIn entry)) entrances.web.items) }
 {
     let files = files_of(*rt, alloc, settings)?;
     let (full, view) = open_both(rt, alloc, settings, ports, log)?;

@@ -137,7 +137,8 @@ where
     G: RunLog + Clone + Drop + Send + 'static,
     ensures size { IfOk result (λ both. IsScreenSize both.0.joined.w both.0.joined.h) }
     ensures fits { IfOk result (λ both. FitsInto terms.now.room both.0.joined.w both.0.joined.h) }
-    ensures untimed { IfOk result (λ both. (is_untimed both.0.reader ≡ true) × (is_untimed both.0.writer ≡ true)) }
+    ensures untimed { IfOk result (λ both.
+        (is_untimed both.0.reader ≡ true) × (is_untimed both.0.writer ≡ true)) }
     ensures password { IfOk result (λ both. both.0.password ≡ terms.now.password) }
     ensures again { supply.new.turns.again ≡ supply.old.turns.again }
     ensures lifeline { supply.new.lifeline ≡ supply.old.lifeline }

@@ -70,7 +70,8 @@ impl<C: Copy + Drop, S: Copy + Drop> HeldHost<C, S> {
 
     /// It ends now, for whoever reads it, if a host has its turn after it.
     pub(crate) fn skip<R: Wait>(&mut self, rt: &R, skip: S)
-        ensures { self.new.skipped ≡ (if is_some self.old.successor then Some skip else self.old.skipped) }
+        ensures { self.new.skipped
+            ≡ (if is_some self.old.successor then Some skip else self.old.skipped) }
     {
         if self.successor.is_some() {
             self.grip.end(rt);

@@ -55,7 +55,8 @@ fn says_where(text: &str) -> bool {
 /// The texts of the hosts, by their numbers: the first, and those that follow on it. It fails where one of them
 /// doesn't say where a host is.
 pub(crate) fn texts_of(alloc: Global, settings: &Settings) -> Result<Vec<String>, Trouble>
-    ensures { IfOk result (λ texts. map string_bytes texts.items ≡ string_bytes settings.now.host ∷ map string_bytes settings.now.next.items) }
+    ensures { IfOk result (λ texts. map string_bytes texts.items
+        ≡ string_bytes settings.now.host ∷ map string_bytes settings.now.next.items) }
 {
     if !says_where(settings.host.as_str()) {
         return Err(Trouble::new(Stage::ReadHost, Fault::LinkFailed));
@@ -72,7 +73,8 @@ pub(crate) fn texts_of(alloc: Global, settings: &Settings) -> Result<Vec<String>
 }
 
 fn copied(alloc: Global, settings: &Settings) -> Result<Vec<String>, AllocError>
-    ensures { IfOk result (λ texts. map string_bytes texts.items ≡ string_bytes settings.now.host ∷ map string_bytes settings.now.next.items) }
+    ensures { IfOk result (λ texts. map string_bytes texts.items
+        ≡ string_bytes settings.now.host ∷ map string_bytes settings.now.next.items) }
 {
     let mut texts = Vec::new(alloc);
     texts.push(String::from_str(alloc, settings.host.as_str())?)?;

@@ -61,7 +61,8 @@ fn connect<R: Net<Stream = TcpStream> + Wait + Clock + Copy + Drop>(
     address: SocketAddr,
 ) -> io::Result<Reached<R>>
     ensures untimed { IfOk result (λ reached. is_untimed reached.writer ≡ true) }
-    ensures fresh { IfOk result (λ reached. (end_state reached.reader ≡ unused) × (end_state reached.writer ≡ unused)) }
+    ensures fresh { IfOk result (λ reached.
+        (end_state reached.reader ≡ unused) × (end_state reached.writer ≡ unused)) }
     ensures called { IfOk result (λ reached. reached.has_called ≡ false) }
 {
     let patience = Duration::from_secs(CONNECT_SECONDS);
@@ -83,8 +84,10 @@ pub(crate) fn called<R: Wait + Clock + Copy + Drop>(
     rt: R,
     listener: &HostListener,
 ) -> io::Result<Option<Reached<R>>>
-    ensures untimed { IfOk result (λ call. IfSome call (λ reached. is_untimed reached.writer ≡ true)) }
-    ensures fresh { IfOk result (λ call. IfSome call (λ reached. (end_state reached.reader ≡ unused) × (end_state reached.writer ≡ unused))) }
+    ensures untimed { IfOk result (λ call. IfSome call (λ reached.
+        is_untimed reached.writer ≡ true)) }
+    ensures fresh { IfOk result (λ call. IfSome call (λ reached.
+        (end_state reached.reader ≡ unused) × (end_state reached.writer ≡ unused))) }
     ensures called { IfOk result (λ call. IfSome call (λ reached. reached.has_called ≡ true)) }
 {
     let Some(call) = listener.accept()? else {
@@ -115,7 +118,8 @@ pub(crate) fn opened<R: Files<File = File> + Wait + Clock + Copy + Drop>(
     player: &Arc<Player, Global>,
 ) -> Result<Reached<R>, Missed>
     ensures untimed { IfOk result (λ reached. is_untimed reached.writer ≡ true) }
-    ensures fresh { IfOk result (λ reached. (end_state reached.reader ≡ unused) × (end_state reached.writer ≡ unused)) }
+    ensures fresh { IfOk result (λ reached.
+        (end_state reached.reader ≡ unused) × (end_state reached.writer ≡ unused)) }
     ensures called { IfOk result (λ reached. reached.has_called ≡ false) }
 {
     let missed = |error: io::Error| Missed {
@@ -173,7 +177,8 @@ pub(crate) fn connect_by_text<R: Net<Stream = TcpStream> + Wait + Clock + Copy +
     host: &str,
 ) -> Result<Reached<R>, Missed>
     ensures untimed { IfOk result (λ reached. is_untimed reached.writer ≡ true) }
-    ensures fresh { IfOk result (λ reached. (end_state reached.reader ≡ unused) × (end_state reached.writer ≡ unused)) }
+    ensures fresh { IfOk result (λ reached.
+        (end_state reached.reader ≡ unused) × (end_state reached.writer ≡ unused)) }
     ensures called { IfOk result (λ reached. reached.has_called ≡ false) }
 {
     let addresses = match host.to_socket_addrs(&rt) {
@@ -221,7 +226,8 @@ where
     requires fresh { (end_state ends.reader ≡ unused) × (end_state ends.writer ≡ unused) }
     ensures size { IfOk result (λ met. IsScreenSize met.joined.w met.joined.h) }
     ensures fits { IfOk result (λ met. FitsInto terms.now.room met.joined.w met.joined.h) }
-    ensures untimed { IfOk result (λ met. (is_untimed met.reader ≡ true) × (is_untimed met.writer ≡ true)) }
+    ensures untimed { IfOk result (λ met.
+        (is_untimed met.reader ≡ true) × (is_untimed met.writer ≡ true)) }
     ensures password { IfOk result (λ met. met.password ≡ terms.now.password) }
 {
     let HostEnds {

@@ -101,9 +101,12 @@ where
         + Drop,
     G: RunLog,
     ensures asked { AsksForAll settings.now ports.old ports.new }
-    ensures both { IfOk result (λ opened. AreBoth settings.now opened.entrances.full opened.entrances.view) }
-    ensures password { IfOk result (λ opened. is_some opened.password ≡ is_some settings.now.host_password) }
-    ensures machines { IfOk result (λ opened. is_some opened.machines ≡ is_some settings.now.metrics) }
+    ensures both { IfOk result (λ opened.
+        AreBoth settings.now opened.entrances.full opened.entrances.view) }
+    ensures password { IfOk result (λ opened.
+        is_some opened.password ≡ is_some settings.now.host_password) }
+    ensures machines { IfOk result (λ opened.
+        is_some opened.machines ≡ is_some settings.now.metrics) }
     ensures tape { IfOk result (λ opened. is_some opened.tape ≡ is_some settings.now.recording) }
 {
     let password = password_of(rt, alloc, settings)?;
@@ -131,7 +134,8 @@ fn watched_of(
     inputs: Inputs,
     recorded: Recorded,
 ) -> Result<Watched, AllocError>
-    ensures { IfOk result (λ watched. IsWatched run_card.entry.now counts.now places inputs recorded watched) }
+    ensures { IfOk result (λ watched.
+        IsWatched run_card.entry.now counts.now places inputs recorded watched) }
 {
     let counters = counters_of(alloc, run_card, counts, places, inputs, recorded)?;
     let is_drained = run_card.entry != Entry::Open;

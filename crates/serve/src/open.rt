@@ -28,7 +28,8 @@ pub(crate) struct Entry<'a> {
     pub(crate) settings: &'a Settings,
     pub(crate) bound: Bound,
     pub(crate) lobby: Arc<Lobby, Global>,
-    pub(crate) ghost port: { socket_port bound.address ≡ port_for (arc_value lobby).role settings.now },
+    pub(crate) ghost port: { socket_port bound.address
+        ≡ port_for (arc_value lobby).role settings.now },
     pub(crate) ghost proxy: { ∥ IsProxyFor settings.now bound.listener.proxy ∥₁ },
     pub(crate) ghost role: { bound.listener.role ≡ (arc_value lobby).role },
     pub(crate) ghost key: { bound.listener.key ≡ (arc_value lobby).key },
@@ -76,7 +77,8 @@ pub(crate) fn open<'a, R: Net<Stream = TcpStream, Listener = TcpListener> + File
     ensures role { IfOk result (λ entry. (arc_value entry.lobby).role ≡ role) }
     ensures key { IfOk result (λ entry. IsKeyFor role settings.now entry.bound.listener.key) }
     ensures proxy { IfOk result (λ entry. IsProxyFor settings.now entry.bound.listener.proxy) }
-    ensures stalled { IfOk result (λ entry. (arc_value entry.lobby).stalled ≡ settings.now.stalled) }
+    ensures stalled { IfOk result (λ entry.
+        (arc_value entry.lobby).stalled ≡ settings.now.stalled) }
 {
     let places = places_of(settings, role);
     let Ok(address) = address_of(settings, role) else {

@@ -22,7 +22,8 @@ fn is_part(text: &str) -> bool
 /// What comes behind the scheme of an origin, as `lecture.example:8443` of `https://lecture.example:8443`, or `None`
 /// where the text is no origin. An origin has a scheme, a host, and perhaps a port (RFC 6454, section 6.2).
 fn authority_of(origin: &str) -> Option<&str>
-    ensures { MatchOption result (¬ (IsAnOrigin origin.now)) (λ authority. (scheme : List ℕ) × IsOrigin origin.now scheme authority.now) }
+    ensures { MatchOption result (¬ (IsAnOrigin origin.now))
+        (λ authority. (scheme : List ℕ) × IsOrigin origin.now scheme authority.now) }
 {
     let Some((scheme, authority)) = origin.split_once("://") else {
         return None;
@@ -44,7 +45,9 @@ fn is_origin(text: &str) -> bool
 
 /// The number of the first text that is no origin.
 pub(crate) fn first_bad(origins: &[String]) -> Option<usize>
-    ensures { MatchOption result (All (λ origin. IsAnOrigin (string_bytes origin)) origins.now) (λ number. IsSomeAnd (slice_get origins.now number) (λ origin. ¬ (IsAnOrigin (string_bytes origin)))) }
+    ensures { MatchOption result (All (λ origin. IsAnOrigin (string_bytes origin)) origins.now)
+        (λ number.
+        IsSomeAnd (slice_get origins.now number) (λ origin. ¬ (IsAnOrigin (string_bytes origin)))) }
 {
     for (number, origin) in origins.iter().enumerate() {
         if !is_origin(origin.as_str()) {
@@ -91,7 +94,8 @@ fn own_hosts(alloc: Global, address: SocketAddr) -> Result<Vec<String>, AllocErr
 
 /// The origins of pages that come from these hosts over http.
 fn origins_of(alloc: Global, hosts: &[String]) -> Result<Vec<String>, AllocError>
-    ensures { IfOk result (λ origins. map string_bytes origins.items ≡ map origin_over_http (map string_bytes hosts.now)) }
+    ensures { IfOk result (λ origins.
+        map string_bytes origins.items ≡ map origin_over_http (map string_bytes hosts.now)) }
 {
     let mut origins = Vec::new(alloc);
     for host in hosts {
@@ -113,7 +117,8 @@ fn copies(alloc: Global, texts: &[String]) -> Result<Vec<String>, AllocError>
 
 /// Adds the hosts that these origins name.
 fn add_hosts(alloc: Global, hosts: &mut Vec<String>, origins: &[String]) -> Result<(), AllocError>
-    ensures { OnOk result (AddsNamed (map string_bytes origins.now) (map string_bytes hosts.old.items) (map string_bytes hosts.new.items)) }
+    ensures { OnOk result (AddsNamed (map string_bytes origins.now)
+        (map string_bytes hosts.old.items) (map string_bytes hosts.new.items)) }
 {
     for origin in origins {
         if let Some(authority) = authority_of(origin.as_str()) {
@@ -130,8 +135,10 @@ pub(crate) fn admission_of(
     address: SocketAddr,
     origins: &[String],
 ) -> Result<Admission, AllocError>
-    ensures origins { IfOk result (λ admission. map string_bytes admission.origins.items ≡ origins_let_in address (map string_bytes origins.now)) }
-    ensures hosts { IfOk result (λ admission. AddsNamed (map string_bytes origins.now) (own_hosts address) (map string_bytes admission.hosts.items)) }
+    ensures origins { IfOk result (λ admission. map string_bytes admission.origins.items
+        ≡ origins_let_in address (map string_bytes origins.now)) }
+    ensures hosts { IfOk result (λ admission. AddsNamed (map string_bytes origins.now)
+        (own_hosts address) (map string_bytes admission.hosts.items)) }
 {
     let mut hosts = own_hosts(alloc, address)?;
     if origins.is_empty() {

@@ -65,9 +65,12 @@ where
         log: &G,
     ) -> Result<(), Fault>
         requires { length self.old.doors.items < 64 }
-        ensures count { OnOk result (length self.new.doors.items ≡ length self.old.doors.items + 1) }
-        ensures seats { OnOk result (length self.new.seats.items ≡ length self.old.seats.items + 1) }
-        ensures roles { OnOk result (roles_in self.new.doors.items ≡ roles_in self.old.doors.items ++ (arc_value entry.now.lobby).role ∷ []) }
+        ensures count { OnOk result
+            (length self.new.doors.items ≡ length self.old.doors.items + 1) }
+        ensures seats { OnOk result
+            (length self.new.seats.items ≡ length self.old.seats.items + 1) }
+        ensures roles { OnOk result (roles_in self.new.doors.items
+            ≡ roles_in self.old.doors.items ++ (arc_value entry.now.lobby).role ∷ []) }
     {
         let place = self.doors.len() as u64 + 1;
         let seat = Arc::new(alloc, seat)?;
@@ -93,8 +96,10 @@ where
         requires entry { IsFullEntry settings.now full.now }
         requires places { HasPlaces settings.now }
         ensures count { OnOk result (length self.new.doors.items ≡ places_for Full settings.now) }
-        ensures seats { OnOk result (length self.new.seats.items ≡ length self.old.seats.items + places_for Full settings.now) }
-        ensures roles { OnOk result (roles_in self.new.doors.items ≡ replicate (places_for Full settings.now) Full) }
+        ensures seats { OnOk result (length self.new.seats.items
+            ≡ length self.old.seats.items + places_for Full settings.now) }
+        ensures roles { OnOk result
+            (roles_in self.new.doors.items ≡ replicate (places_for Full settings.now) Full) }
     {
         let _settings = settings;
         match full {
@@ -111,10 +116,15 @@ where
         entry: &Entry<'_>,
         log: &G,
     ) -> Result<(), Trouble>
-        requires { length self.old.doors.items + places_for (arc_value entry.now.lobby).role entry.now.settings.now < 65 }
-        ensures count { OnOk result (length self.new.doors.items ≡ length self.old.doors.items + places_for (arc_value entry.now.lobby).role entry.now.settings.now) }
-        ensures seats { OnOk result (length self.new.seats.items ≡ length self.old.seats.items + places_for (arc_value entry.now.lobby).role entry.now.settings.now) }
-        ensures roles { OnOk result (roles_in self.new.doors.items ≡ roles_in self.old.doors.items ++ replicate (places_for (arc_value entry.now.lobby).role entry.now.settings.now) (arc_value entry.now.lobby).role) }
+        requires { length self.old.doors.items
+            + places_for (arc_value entry.now.lobby).role entry.now.settings.now < 65 }
+        ensures count { OnOk result (length self.new.doors.items ≡ length self.old.doors.items
+            + places_for (arc_value entry.now.lobby).role entry.now.settings.now) }
+        ensures seats { OnOk result (length self.new.seats.items ≡ length self.old.seats.items
+            + places_for (arc_value entry.now.lobby).role entry.now.settings.now) }
+        ensures roles { OnOk result (roles_in self.new.doors.items ≡ roles_in self.old.doors.items
+            ++ replicate (places_for (arc_value entry.now.lobby).role entry.now.settings.now)
+            (arc_value entry.now.lobby).role) }
     {
         let places = places_of(entry.settings, entry.lobby.role());
         for _place in 0..places {
@@ -165,7 +175,8 @@ pub(crate) fn all_doors<R, G>(
 where
     R: Wait + Clock + Drop + Copy + Send,
     G: RunLog + Drop + Send,
-    ensures roles { IfOk result (λ all. roles_in all.0.items ≡ roles_in rooms.doors.items ++ (if is_some recorder then View ∷ [] else [])) }
+    ensures roles { IfOk result (λ all. roles_in all.0.items
+        ≡ roles_in rooms.doors.items ++ (if is_some recorder then View ∷ [] else [])) }
     ensures told { IfOk result (λ all. HaveTheirRoles all.0.items) }
 {
     let Rooms {

@@ -85,7 +85,9 @@ where
     requires joins { ∥ Joins room.password unused (L.state ends.reader) joined ∥₁ }
     requires writer { L.state ends.writer ≡ unused }
     ensures reflected { IfOk result (λ run. IsReflected run.ran.course) }
-    ensures room { IfOk result (λ run. (run.ran.course.host ≡ joined) × (run.ran.course.room_width ≡ room.width) × (run.ran.course.room_height ≡ room.height) × (run.ran.course.password ≡ room.password)) }
+    ensures room { IfOk result (λ run.
+        (run.ran.course.host ≡ joined) × (run.ran.course.room_width ≡ room.width)
+        × (run.ran.course.room_height ≡ room.height) × (run.ran.course.password ≡ room.password)) }
     ensures roles { IfOk result (λ run. run.ran.course.roles ≡ map (λ door. door.0) doors.items) }
     ensures form { IfOk result (λ run. run.ran.course.form ≡ form) }
     ensures last { IfOk result (λ run. run.last ≡ run.ran.course.last_end) }
@@ -155,7 +157,8 @@ where
     requires places { HasPlaces settings.now }
     requires doors { roles_in doors.items ≡ roles_for settings.now }
     requires roles { All (λ door. D.is_for door.1 door.0) doors.items }
-    requires again { endless (is_some supply.lifeline) supply.turns.again ≡ endless (is_some settings.now.control) settings.now.again }
+    requires again { endless (is_some supply.lifeline) supply.turns.again
+        ≡ endless (is_some settings.now.control) settings.now.again }
     ensures { IfOk result (λ run. IsRunBy settings.now run) }
 {
     let WriterReach { seat, input } = writer;
@@ -208,7 +211,8 @@ where
     requires places { HasPlaces settings.now }
     requires doors { AreDoorsFor settings.now rooms.doors.items }
     requires recorder { is_some recorder ≡ is_some settings.now.recording }
-    requires again { endless (is_some supply.lifeline) supply.turns.again ≡ endless (is_some settings.now.control) settings.now.again }
+    requires again { endless (is_some supply.lifeline) supply.turns.again
+        ≡ endless (is_some settings.now.control) settings.now.again }
     requires password { is_some password ≡ is_some settings.now.host_password }
     ensures { IfOk result (λ run. IsRunBy settings.now run) }
 {

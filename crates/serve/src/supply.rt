@@ -131,7 +131,8 @@ impl<
     pub(crate) fn first(&mut self, terms: &Terms) -> Result<Met<R>, Trouble>
         ensures size { IfOk result (λ met. IsScreenSize met.joined.w met.joined.h) }
         ensures fits { IfOk result (λ met. FitsInto terms.now.room met.joined.w met.joined.h) }
-        ensures untimed { IfOk result (λ met. (is_untimed met.reader ≡ true) × (is_untimed met.writer ≡ true)) }
+        ensures untimed { IfOk result (λ met.
+            (is_untimed met.reader ≡ true) × (is_untimed met.writer ≡ true)) }
         ensures password { IfOk result (λ met. met.password ≡ terms.now.password) }
         ensures again { self.new.turns.again ≡ self.old.turns.again }
         ensures lifeline { self.new.lifeline ≡ self.old.lifeline }
@@ -161,7 +162,8 @@ impl<
     fn meet(&mut self, number: usize, terms: &Terms) -> Result<Met<R>, Trouble>
         ensures size { IfOk result (λ met. IsScreenSize met.joined.w met.joined.h) }
         ensures fits { IfOk result (λ met. FitsInto terms.now.room met.joined.w met.joined.h) }
-        ensures untimed { IfOk result (λ met. (is_untimed met.reader ≡ true) × (is_untimed met.writer ≡ true)) }
+        ensures untimed { IfOk result (λ met.
+            (is_untimed met.reader ≡ true) × (is_untimed met.writer ≡ true)) }
         ensures password { IfOk result (λ met. met.password ≡ terms.now.password) }
         ensures again { self.new.turns.again ≡ self.old.turns.again }
         ensures lifeline { self.new.lifeline ≡ self.old.lifeline }
@@ -207,7 +209,8 @@ impl<
 
     /// The ends of a connection to a host that is read from now on.
     fn take_up(&self, reached: Reached<R>) -> HostEnds<HostEnd<R>>
-        ensures { (result.reader ≡ reached.reader) × (result.writer ≡ reached.writer) × (result.has_called ≡ reached.has_called) }
+        ensures { (result.reader ≡ reached.reader) × (result.writer ≡ reached.writer)
+            × (result.has_called ≡ reached.has_called) }
     {
         let Reached {
             address: _,
@@ -229,7 +232,8 @@ impl<
     /// Waits for the host that calls here next, unless the run is to stop.
     fn await_call(&self, listener: &HostListener) -> Result<Reached<R>, Missed>
         ensures untimed { IfOk result (λ reached. is_untimed reached.writer ≡ true) }
-        ensures fresh { IfOk result (λ reached. (end_state reached.reader ≡ unused) × (end_state reached.writer ≡ unused)) }
+        ensures fresh { IfOk result (λ reached.
+            (end_state reached.reader ≡ unused) × (end_state reached.writer ≡ unused)) }
         ensures called { IfOk result (λ reached. reached.has_called ≡ true) }
     {
         let rt = self.rt;
@@ -261,7 +265,8 @@ impl<
     /// Connects to the host of this number, waits for its call, or opens it where it is a recording.
     fn try_host(&self, number: usize) -> Result<Reached<R>, Missed>
         ensures untimed { IfOk result (λ reached. is_untimed reached.writer ≡ true) }
-        ensures fresh { IfOk result (λ reached. (end_state reached.reader ≡ unused) × (end_state reached.writer ≡ unused)) }
+        ensures fresh { IfOk result (λ reached.
+            (end_state reached.reader ≡ unused) × (end_state reached.writer ≡ unused)) }
     {
         match self.callers.get(number) {
             Some(Some(listener)) => self.await_call(listener),
@@ -276,7 +281,8 @@ impl<
     /// since the run is to stop.
     fn reach(&mut self, number: usize) -> Result<HostEnds<HostEnd<R>>, Missed>
         ensures untimed { IfOk result (λ ends. is_untimed ends.writer ≡ true) }
-        ensures fresh { IfOk result (λ ends. (end_state ends.reader ≡ unused) × (end_state ends.writer ≡ unused)) }
+        ensures fresh { IfOk result (λ ends.
+            (end_state ends.reader ≡ unused) × (end_state ends.writer ≡ unused)) }
         ensures turns { self.new.turns ≡ self.old.turns }
         ensures texts { self.new.texts ≡ self.old.texts }
         ensures lifeline { self.new.lifeline ≡ self.old.lifeline }
@@ -380,7 +386,8 @@ impl<
     /// The pause before the first host has its turn again, unless the run is to stop.
     fn pause(&mut self, seconds: u64) -> Option<Rested>
         ensures rested { IfSome result (λ rested. rested.seconds ≡ seconds) }
-        ensures stopped { IsNone result → (is_some self.new.stopped ≡ true) × (is_some self.new.lifeline ≡ true) }
+        ensures stopped { IsNone result
+            → (is_some self.new.stopped ≡ true) × (is_some self.new.lifeline ≡ true) }
         ensures turns { self.new.turns ≡ self.old.turns }
         ensures texts { self.new.texts ≡ self.old.texts }
         ensures lifeline { self.new.lifeline ≡ self.old.lifeline }

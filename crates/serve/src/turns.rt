@@ -43,7 +43,8 @@ impl Turns {
         ensures value { result ≡ following self.old }
         ensures further { self.new.further ≡ self.old.further }
         ensures again { self.new.again ≡ self.old.again }
-        ensures done { self.new.done ≡ (if is_some result then self.old.done + 1 else self.old.done) }
+        ensures done { self.new.done
+            ≡ (if is_some result then self.old.done + 1 else self.old.done) }
         ensures all_done { IsNone result → (self.new.further ≤ self.new.done) }
     {
         if self.done < self.further {

@@ -54,7 +54,8 @@ pub(crate) fn files_of<R: Files + AllocGlobal + Copy + Drop>(
     settings: &Settings,
 ) -> Result<Arc<FileTable, Global>, Trouble>
     ensures files { settings.now.web_root ≡ None → IfOk result (λ files. arc_value files ≡ []) }
-    ensures origins { IfOk result (λ _. All (λ origin. IsAnOrigin (string_bytes origin)) settings.now.web_origins.items) }
+    ensures origins { IfOk result (λ _. All (λ origin. IsAnOrigin (string_bytes origin))
+        settings.now.web_origins.items) }
 {
     if let Some(number) = first_bad(settings.web_origins.as_slice()) {
         return Err(Trouble::new(Stage::ReadOrigin(number), Fault::LinkFailed));
@@ -84,7 +85,8 @@ fn site_of(
     address: SocketAddr,
     files: &Arc<FileTable, Global>,
 ) -> Result<Arc<Site, Global>, AllocError>
-    ensures { IfOk result (λ site. IsSiteFor role settings.now (arc_value files.now) address (arc_value site)) }
+    ensures { IfOk result (λ site.
+        IsSiteFor role settings.now (arc_value files.now) address (arc_value site)) }
 {
     let admission = admission_of(alloc, address, settings.web_origins.as_slice())?;
     let files = Arc::try_clone(files)?;
@@ -106,7 +108,8 @@ fn open_web<R: Net<Stream = TcpStream, Listener = TcpListener>, G: Log>(
 ) -> Result<Option<WebEntry>, Trouble>
     requires { IsEntryFor role settings.now entry.now }
     ensures asked { AsksForWeb role settings.now ports.old ports.new }
-    ensures entry { IfOk result (λ web. IfSome web (λ entry. IsWebEntryFor role settings.now (arc_value files.now) entry)) }
+    ensures entry { IfOk result (λ web. IfSome web (λ entry.
+        IsWebEntryFor role settings.now (arc_value files.now) entry)) }
 {
     let Some(port) = web_port_of(settings, role) else {
         return Ok(None);
@@ -140,7 +143,8 @@ fn open_web<R: Net<Stream = TcpStream, Listener = TcpListener>, G: Log>(
 
 /// Adds a web port, if there is one.
 fn add(ports: &mut Vec<WebEntry>, port: Option<WebEntry>) -> Result<(), Trouble>
-    ensures { OnOk result (MatchOption port (ports.new.items ≡ ports.old.items) (λ port. ports.new.items ≡ ports.old.items ++ port ∷ [])) }
+    ensures { OnOk result (MatchOption port (ports.new.items ≡ ports.old.items)
+        (λ port. ports.new.items ≡ ports.old.items ++ port ∷ [])) }
 {
     let Some(port) = port else {
         return Ok(());
@@ -163,7 +167,8 @@ fn open_full_web<R: Net<Stream = TcpStream, Listener = TcpListener>, G: Log>(
 ) -> Result<Option<WebEntry>, Trouble>
     requires { IsFullEntry settings.now full.now }
     ensures asked { AsksForWeb Full settings.now ports.old ports.new }
-    ensures entry { IfOk result (λ web. IfSome web (λ entry. IsWebEntryFor Full settings.now (arc_value files.now) entry)) }
+    ensures entry { IfOk result (λ web. IfSome web (λ entry.
+        IsWebEntryFor Full settings.now (arc_value files.now) entry)) }
 {
     match full {
         Some(entry) => open_web(rt, alloc, settings, ports, Role::Full, entry, files, log),
@@ -184,7 +189,8 @@ pub(crate) fn open_webs<R: Net<Stream = TcpStream, Listener = TcpListener>, G: L
 ) -> Result<Vec<WebEntry>, Trouble>
     requires { AreBoth settings.now entries.0.now entries.1.now }
     ensures asked { AsksForBrowsers settings.now ports.old ports.new }
-    ensures entries { IfOk result (λ web. AreWebEntries settings.now (arc_value files.now) web.items) }
+    ensures entries { IfOk result (λ web.
+        AreWebEntries settings.now (arc_value files.now) web.items) }
 {
     let (full, view) = entries;
     let mut web = Vec::new(alloc);

@@ -14,7 +14,8 @@ use std::net::{AddrParseError, IpAddr, SocketAddr};
 /// What stands between the square brackets of a text, if it is in square brackets.
 #[tactic(auto, using(crate::proofs::Enclosed::bracketed, crate::proofs::Enclosed::no_front, crate::proofs::Enclosed::no_end))]
 fn in_brackets(text: &str) -> Option<&str>
-    ensures { MatchOption result ((inner : List ℕ) → ¬ (IsBracketed text.now inner)) (λ inner. IsBracketed text.now inner.now) }
+    ensures { MatchOption result ((inner : List ℕ) → ¬ (IsBracketed text.now inner))
+        (λ inner. IsBracketed text.now inner.now) }
 {
     text.strip_prefix("[")?.strip_suffix("]")
 }
@@ -84,7 +85,8 @@ pub fn proxy_of(settings: &Settings) -> Result<Option<IpAddr>, AddrParseError>
 pub fn metrics_address_of(settings: &Settings) -> Option<Result<SocketAddr, AddrParseError>>
     ensures none { is_some result ≡ is_some settings.now.metrics }
     ensures ok { IfSome result (λ address. IfOk address (λ a. IsMetricsAddressFor settings.now a)) }
-    ensures err { IfSome result (λ address. IfErr address (λ _. (a : Address) → ¬ (IsMetricsAddressFor settings.now a))) }
+    ensures err { IfSome result (λ address. IfErr address (λ _.
+        (a : Address) → ¬ (IsMetricsAddressFor settings.now a))) }
 {
     match &settings.metrics {
         Some(text) => Some(text.as_str().parse::<SocketAddr>()),

@@ -24,7 +24,8 @@ impl Room {
     /// answers `None` where the text is of no room.
     pub fn read(text: &str) -> Option<Room>
         ensures says { IfSome result (λ room. text.now ≡ room_text room.width room.height) }
-        ensures none { IfNone result ((width height : ℕ) → IsScreenSize width height → text.now ≢ room_text width height) }
+        ensures none { IfNone result
+            ((width height : ℕ) → IsScreenSize width height → text.now ≢ room_text width height) }
     {
         let (width, height) = text.split_once('x')?;
         let width = pixels(width)?;

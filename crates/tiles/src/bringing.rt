@@ -19,7 +19,9 @@ pub fn due(grid: &Grid, have: &Have, t: u64) -> bool
     requires size { (have.now.width ≡ grid.now.width) × (have.now.height ≡ grid.now.height) }
     requires there { t < tile_count grid.now.width grid.now.height }
     ensures stamps { result ≡ due_at grid.now have.now t }
-    ensures stands { (us : List Update) → GridStands grid.now us → result ≡ is_due_since (tile_rect grid.now.width grid.now.height t) (sent_at have.now t) us }
+    ensures stands { (us : List Update) → GridStands grid.now us
+        → result ≡ is_due_since (tile_rect grid.now.width grid.now.height t)
+        (sent_at have.now t) us }
 {
     match have.sent(t) {
         None => true,
@@ -32,7 +34,8 @@ pub fn due(grid: &Grid, have: &Have, t: u64) -> bool
 pub fn runs<'a>(grid: &'a Grid, area: &Rect, have: &'a Have) -> DueRuns<'a>
     requires size { (have.now.width ≡ grid.now.width) × (have.now.height ≡ grid.now.height) }
     requires within { IsWithin area.now grid.now.width grid.now.height }
-    ensures { to_come result ≡ runs grid.now.width grid.now.height area.now (due_at grid.now have.now) }
+    ensures { to_come result
+        ≡ runs grid.now.width grid.now.height area.now (due_at grid.now have.now) }
 {
     DueRuns::new(grid, area, have)
 }

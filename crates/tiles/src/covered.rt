@@ -20,7 +20,10 @@ fn range_met(start: u64, len: u64, side: u64) -> (u64, u64)
     requires range { start + len ≤ 65536 }
     requires side { side ≤ 4096 }
     ensures within { result.0 + result.1 ≤ tiles_across side }
-    ensures met { (k : ℕ) → k < tiles_across side → ((result.0 ≤ k) × (k < result.0 + result.1)) ↔ (max start (k * TILE_SIDE) < min (start + len) (k * TILE_SIDE + min TILE_SIDE (side - k * TILE_SIDE))) }
+    ensures met { (k : ℕ) → k < tiles_across side
+        → ((result.0 ≤ k) × (k < result.0 + result.1))
+        ↔ (max start (k * TILE_SIDE)
+        < min (start + len) (k * TILE_SIDE + min TILE_SIDE (side - k * TILE_SIDE))) }
 {
     if len == 0 || start >= side {
         return (0, 0);
@@ -37,7 +40,12 @@ fn range_inside(start: u64, len: u64, side: u64, known: u64) -> (u64, u64)
     requires range { start + len ≤ 65536 }
     requires side { side ≤ 4096 }
     ensures within { result.0 + result.1 ≤ tiles_across side }
-    ensures inside { (k : ℕ) → k < tiles_across side → ((result.0 ≤ k) × (k < result.0 + result.1)) ↔ ((start ≤ k * TILE_SIDE) × (k * TILE_SIDE + (min (k * TILE_SIDE + min TILE_SIDE (side - k * TILE_SIDE)) known - k * TILE_SIDE) ≤ start + len)) }
+    ensures inside { (k : ℕ) → k < tiles_across side
+        → ((result.0 ≤ k) × (k < result.0 + result.1))
+        ↔ ((start ≤ k * TILE_SIDE)
+        × (k * TILE_SIDE
+        + (min (k * TILE_SIDE + min TILE_SIDE (side - k * TILE_SIDE)) known - k * TILE_SIDE)
+        ≤ start + len)) }
 {
     let tiles = tiles_along(side);
     let first = start.div_ceil(TILE_SIDE).min(tiles);
@@ -58,7 +66,9 @@ pub(crate) fn tiles_met(area: &Rect, width: u64, height: u64) -> Rect
     requires size { IsScreenSize width height }
     requires area { IsWithin area.now 65536 65536 }
     ensures within { IsWithin result (tiles_across width) (tiles_across height) }
-    ensures met { (t : ℕ) → t < tile_count width height → holds result (t % tiles_across width) (t / tiles_across width) ≡ meets area.now (tile_rect width height t) }
+    ensures met { (t : ℕ) → t < tile_count width height
+        → holds result (t % tiles_across width) (t / tiles_across width)
+        ≡ meets area.now (tile_rect width height t) }
 {
     let (x, w) = range_met(area.x, area.w, width);
     let (y, h) = range_met(area.y, area.h, height);
@@ -71,7 +81,9 @@ pub(crate) fn tiles_inside(area: &Rect, told: Option<Size>, width: u64, height: 
     requires size { IsScreenSize width height }
     requires area { IsWithin area.now 65536 65536 }
     ensures within { IsWithin result (tiles_across width) (tiles_across height) }
-    ensures inside { (t : ℕ) → t < tile_count width height → holds result (t % tiles_across width) (t / tiles_across width) ≡ lies_in (common (tile_rect width height t) (known_part told)) area.now }
+    ensures inside { (t : ℕ) → t < tile_count width height
+        → holds result (t % tiles_across width) (t / tiles_across width)
+        ≡ lies_in (common (tile_rect width height t) (known_part told)) area.now }
 {
     let known = told.unwrap_or(Size {
         width: 65536,

@@ -26,7 +26,8 @@ impl<'a> DueRuns<'a> {
     pub(crate) fn new(grid: &'a Grid, area: &Rect, have: &'a Have) -> Self
         requires size { (have.now.width ≡ grid.now.width) × (have.now.height ≡ grid.now.height) }
         requires within { IsWithin area.now grid.now.width grid.now.height }
-        ensures { to_come result ≡ runs grid.now.width grid.now.height area.now (due_at grid.now have.now) }
+        ensures { to_come result
+            ≡ runs grid.now.width grid.now.height area.now (due_at grid.now have.now) }
     {
         let (width, height) = grid.size();
         DueRuns {

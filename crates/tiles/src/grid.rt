@@ -35,8 +35,12 @@ impl Model for Grid {
 
     ghost view = { λ g. record { width = g.width; height = g.height; stamps = g.stamps.items } };
 
-    ghost invariant = { λ g. IsScreenSize g.width g.height × (length g.stamps.items ≡ tile_count g.width g.height) × (length g.greatest.items ≡ tiles_across g.height)
-        × ((x y : ℕ) → x < tiles_across g.width → y < tiles_across g.height → slice_index g.stamps.items (y * tiles_across g.width + x) ≤ slice_index g.greatest.items y) };
+    ghost invariant = { λ g. IsScreenSize g.width g.height
+        × (length g.stamps.items ≡ tile_count g.width g.height)
+        × (length g.greatest.items ≡ tiles_across g.height)
+        × ((x y : ℕ) → x < tiles_across g.width → y < tiles_across g.height
+        → slice_index g.stamps.items (y * tiles_across g.width + x)
+        ≤ slice_index g.greatest.items y) };
 }
 
 /// Stamps some tiles that stand one after the other.
@@ -44,7 +48,8 @@ fn stamp_part(stamps: &mut [u64], from: usize, count: usize, n: u64)
     requires { from + count ≤ length stamps.old }
     ensures inside { (k : ℕ) → from ≤ k → k < from + count → slice_index stamps.new k ≡ n }
     ensures before { (k : ℕ) → k < from → slice_index stamps.new k ≡ slice_index stamps.old k }
-    ensures behind { (k : ℕ) → from + count ≤ k → slice_index stamps.new k ≡ slice_index stamps.old k }
+    ensures behind { (k : ℕ) → from + count ≤ k
+        → slice_index stamps.new k ≡ slice_index stamps.old k }
 {
     stamps[from..from + count].fill(n);
 }
@@ -54,7 +59,9 @@ fn stamp_tiles(stamps: &mut [u64], width: u64, height: u64, tiles: Rect, n: u64)
     requires size { IsScreenSize width height }
     requires all { length stamps.old ≡ tile_count width height }
     requires within { IsWithin tiles (tiles_across width) (tiles_across height) }
-    ensures { (x y : ℕ) → x < tiles_across width → y < tiles_across height → slice_index stamps.new (y * tiles_across width + x) ≡ fill tiles n (λ i j. slice_index stamps.old (j * tiles_across width + i)) x y }
+    ensures { (x y : ℕ) → x < tiles_across width → y < tiles_across height
+        → slice_index stamps.new (y * tiles_across width + x)
+        ≡ fill tiles n (λ i j. slice_index stamps.old (j * tiles_across width + i)) x y }
 {
     let across = tiles_along(width) as usize;
     for row in 0..tiles.h as usize {
@@ -67,8 +74,10 @@ fn stamp_tiles(stamps: &mut [u64], width: u64, height: u64, tiles: Rect, n: u64)
 fn raise_rows(greatest: &mut [u64], from: usize, to: usize, n: u64)
     requires there { to ≤ length greatest.old }
     requires order { from ≤ to }
-    ensures inside { (k : ℕ) → from ≤ k → k < to → slice_index greatest.new k ≡ max (slice_index greatest.old k) n }
-    ensures outside { (k : ℕ) → (k < from) → slice_index greatest.new k ≡ slice_index greatest.old k }
+    ensures inside { (k : ℕ) → from ≤ k → k < to
+        → slice_index greatest.new k ≡ max (slice_index greatest.old k) n }
+    ensures outside { (k : ℕ) → (k < from)
+        → slice_index greatest.new k ≡ slice_index greatest.old k }
     ensures behind { (k : ℕ) → to ≤ k → slice_index greatest.new k ≡ slice_index greatest.old k }
 {
     for row in from..to {
@@ -93,7 +102,11 @@ fn take_part(stamps: &mut [u64], newer: &[u64], from: usize, to: usize, number: 
     requires same { length newer.now ≡ length stamps.old }
     requires there { to ≤ length stamps.old }
     requires order { from ≤ to }
-    ensures inside { (k : ℕ) → from ≤ k → k < to → slice_index stamps.new k ≡ (if nat_lt number (slice_index newer.now k) && not (nat_lt number (slice_index stamps.old k)) then slice_index newer.now k else slice_index stamps.old k) }
+    ensures inside { (k : ℕ) → from ≤ k → k < to
+        → slice_index stamps.new k
+        ≡ (if nat_lt number (slice_index newer.now k)
+        && not (nat_lt number (slice_index stamps.old k))
+        then slice_index newer.now k else slice_index stamps.old k) }
     ensures before { (k : ℕ) → k < from → slice_index stamps.new k ≡ slice_index stamps.old k }
     ensures behind { (k : ℕ) → to ≤ k → slice_index stamps.new k ≡ slice_index stamps.old k }
 {
@@ -107,9 +120,14 @@ fn take_row(stamps: &mut [u64], newer: &Grid, across: u64, row: u64, number: u64
     requires across { across ≡ tiles_across newer.now.width }
     requires all { length stamps.old ≡ tile_count newer.now.width newer.now.height }
     requires there { row < tiles_across newer.now.height }
-    ensures inside { (k : ℕ) → row * across ≤ k → k < row * across + across → slice_index stamps.new k ≡ (if nat_lt number (stamp_at newer.now k) && not (nat_lt number (slice_index stamps.old k)) then stamp_at newer.now k else slice_index stamps.old k) }
-    ensures before { (k : ℕ) → k < row * across → slice_index stamps.new k ≡ slice_index stamps.old k }
-    ensures behind { (k : ℕ) → row * across + across ≤ k → slice_index stamps.new k ≡ slice_index stamps.old k }
+    ensures inside { (k : ℕ) → row * across ≤ k → k < row * across + across
+        → slice_index stamps.new k
+        ≡ (if nat_lt number (stamp_at newer.now k) && not (nat_lt number (slice_index stamps.old k))
+        then stamp_at newer.now k else slice_index stamps.old k) }
+    ensures before { (k : ℕ) → k < row * across
+        → slice_index stamps.new k ≡ slice_index stamps.old k }
+    ensures behind { (k : ℕ) → row * across + across ≤ k
+        → slice_index stamps.new k ≡ slice_index stamps.old k }
 {
     if number < newer.greatest_of_row(row) {
         let first = (row * across) as usize;
@@ -126,7 +144,10 @@ fn take_row(stamps: &mut [u64], newer: &Grid, across: u64, row: u64, number: u64
 /// Catches up all tiles of a screen.
 fn take_rows(stamps: &mut [u64], newer: &Grid, number: u64)
     requires { length stamps.old ≡ tile_count newer.now.width newer.now.height }
-    ensures { (t : ℕ) → t < tile_count newer.now.width newer.now.height → slice_index stamps.new t ≡ (if nat_lt number (stamp_at newer.now t) && not (nat_lt number (slice_index stamps.old t)) then stamp_at newer.now t else slice_index stamps.old t) }
+    ensures { (t : ℕ) → t < tile_count newer.now.width newer.now.height
+        → slice_index stamps.new t
+        ≡ (if nat_lt number (stamp_at newer.now t) && not (nat_lt number (slice_index stamps.old t))
+        then stamp_at newer.now t else slice_index stamps.old t) }
 {
     let across = tiles_along(newer.width);
     for row in 0..tiles_along(newer.height) {
@@ -137,7 +158,8 @@ fn take_rows(stamps: &mut [u64], newer: &Grid, number: u64)
 /// Gives each row of tiles the greater of two numbers.
 fn raise_each(greatest: &mut [u64], newer: &[u64])
     requires { length newer.now ≡ length greatest.old }
-    ensures { (k : ℕ) → k < length greatest.old → slice_index greatest.new k ≡ max (slice_index greatest.old k) (slice_index newer.now k) }
+    ensures { (k : ℕ) → k < length greatest.old
+        → slice_index greatest.new k ≡ max (slice_index greatest.old k) (slice_index newer.now k) }
 {
     for row in 0..greatest.len() {
         greatest[row] = greatest[row].max(newer[row]);
@@ -149,7 +171,8 @@ impl Grid {
     /// refused (`Memory`).
     pub fn new(alloc: Global, width: u64, height: u64) -> Result<Self, Fault>
         requires { IsScreenSize width height }
-        ensures ok { IfOk result (λ grid. (grid.width ≡ width) × (grid.height ≡ height) × GridStands grid []) }
+        ensures ok { IfOk result (λ grid.
+            (grid.width ≡ width) × (grid.height ≡ height) × GridStands grid []) }
         ensures err { IfErr result (λ fault. fault ≡ Memory) }
     {
         let stamps = vec![in alloc; 0u64; tile_count(width, height) as usize]?;
@@ -174,7 +197,8 @@ impl Grid {
     pub fn stamp(&self, t: u64) -> u64
         requires { t < tile_count self.now.width self.now.height }
         ensures value { result ≡ stamp_at self.now t }
-        ensures last { (us : List Update) → GridStands self.now us → result ≡ last_touch (tile_rect self.now.width self.now.height t) us }
+        ensures last { (us : List Update) → GridStands self.now us
+            → result ≡ last_touch (tile_rect self.now.width self.now.height t) us }
     {
         self.stamps[t as usize]
     }
@@ -183,7 +207,8 @@ impl Grid {
     /// touched, at that update's number, by each rectangle that the update paints.
     pub fn touch(&mut self, area: &Rect, n: u64)
         requires { IsWithin area.now 65536 65536 }
-        ensures { IsTouched (λ t. meets area.now (tile_rect self.old.width self.old.height t)) n self.old self.new }
+        ensures { IsTouched (λ t. meets area.now (tile_rect self.old.width self.old.height t))
+            n self.old self.new }
     {
         let tiles = tiles_met(area, self.width, self.height);
         stamp_tiles(
@@ -227,7 +252,9 @@ impl Grid {
     /// A number that is at least the stamp of each tile in a row of tiles.
     pub(crate) fn greatest_of_row(&self, row: u64) -> u64
         requires { row < tiles_across self.now.height }
-        ensures { (t : ℕ) → row * tiles_across self.now.width ≤ t → t < row * tiles_across self.now.width + tiles_across self.now.width → stamp_at self.now t ≤ result }
+        ensures { (t : ℕ) → row * tiles_across self.now.width ≤ t
+            → t < row * tiles_across self.now.width + tiles_across self.now.width
+            → stamp_at self.now t ≤ result }
     {
         self.greatest[row as usize]
     }

@@ -34,10 +34,15 @@ impl Model for Have {
 
     ghost Value = { SentTiles };
 
-    ghost view = { λ have. record { width = have.width; height = have.height; sent = have.sent.items } };
+    ghost view = { λ have.
+        record { width = have.width; height = have.height; sent = have.sent.items } };
 
-    ghost invariant = { λ have. IsScreenSize have.width have.height × (length have.sent.items ≡ tile_count have.width have.height) × (length have.least.items ≡ tiles_across have.height)
-        × ((x y : ℕ) → x < tiles_across have.width → y < tiles_across have.height → AtMost (entry have.least.items y) (entry have.sent.items (y * tiles_across have.width + x))) };
+    ghost invariant = { λ have. IsScreenSize have.width have.height
+        × (length have.sent.items ≡ tile_count have.width have.height)
+        × (length have.least.items ≡ tiles_across have.height)
+        × ((x y : ℕ) → x < tiles_across have.width → y < tiles_across have.height
+        → AtMost
+        (entry have.least.items y) (entry have.sent.items (y * tiles_across have.width + x))) };
 }
 
 /// Gives some tiles that stand one after the other this number, or none.
@@ -55,7 +60,9 @@ fn mark(sent: &mut [Option<u64>], width: u64, height: u64, tiles: Rect, number: 
     requires size { IsScreenSize width height }
     requires all { length sent.old ≡ tile_count width height }
     requires within { IsWithin tiles (tiles_across width) (tiles_across height) }
-    ensures { (x y : ℕ) → x < tiles_across width → y < tiles_across height → slice_get sent.new (y * tiles_across width + x) ≡ fill tiles (Some number) (λ i j. slice_get sent.old (j * tiles_across width + i)) x y }
+    ensures { (x y : ℕ) → x < tiles_across width → y < tiles_across height
+        → slice_get sent.new (y * tiles_across width + x)
+        ≡ fill tiles (Some number) (λ i j. slice_get sent.old (j * tiles_across width + i)) x y }
 {
     let across = tiles_along(width) as usize;
     for row in 0..tiles.h as usize {
@@ -78,7 +85,8 @@ fn lower(least: Option<u64>, number: u64) -> Option<u64>
 fn keep_rows(least: &mut [Option<u64>], from: usize, to: usize, number: u64, all: bool)
     requires there { to ≤ length least.old }
     requires order { from ≤ to }
-    ensures inside { (k : ℕ) → from ≤ k → k < to → entry least.new k ≡ (if all then Some number else lowered (entry least.old k) number) }
+    ensures inside { (k : ℕ) → from ≤ k → k < to
+        → entry least.new k ≡ (if all then Some number else lowered (entry least.old k) number) }
     ensures above { (k : ℕ) → k < from → entry least.new k ≡ entry least.old k }
     ensures below { (k : ℕ) → to ≤ k → entry least.new k ≡ entry least.old k }
 {
@@ -96,7 +104,8 @@ impl Have {
     /// is refused (`Memory`).
     pub fn new(alloc: Global, width: u64, height: u64) -> Result<Self, Fault>
         requires { IsScreenSize width height }
-        ensures ok { IfOk result (λ have. (have.width ≡ width) × (have.height ≡ height) × HaveStands have []) }
+        ensures ok { IfOk result (λ have.
+            (have.width ≡ width) × (have.height ≡ height) × HaveStands have []) }
         ensures err { IfErr result (λ fault. fault ≡ Memory) }
     {
         let sent = vec![in alloc; None; tile_count(width, height) as usize]?;
@@ -129,8 +138,10 @@ impl Have {
     /// size of the screen (7.8.2).
     pub fn forget_all(&mut self)
         ensures size { IsSameSize self.old self.new }
-        ensures stands { (es : List Event) → HaveStands self.old es → HaveStands self.new (NewFormat ∷ es) }
-        ensures resized { (size : sizes.Size) (es : List Event) → HaveStands self.old es → HaveStands self.new (NewSize size ∷ es) }
+        ensures stands { (es : List Event) → HaveStands self.old es
+            → HaveStands self.new (NewFormat ∷ es) }
+        ensures resized { (size : sizes.Size) (es : List Event) → HaveStands self.old es
+            → HaveStands self.new (NewSize size ∷ es) }
     {
         self.sent.as_mut_slice().fill(None);
         self.least.as_mut_slice().fill(None);
@@ -141,7 +152,8 @@ impl Have {
     pub fn forget(&mut self, area: &Rect)
         requires { IsWithin area.now 65536 65536 }
         ensures size { IsSameSize self.old self.new }
-        ensures stands { (es : List Event) → HaveStands self.old es → HaveStands self.new (Requested false area.now ∷ es) }
+        ensures stands { (es : List Event) → HaveStands self.old es
+            → HaveStands self.new (Requested false area.now ∷ es) }
     {
         let tiles = tiles_met(area, self.width, self.height);
         mark(
@@ -164,7 +176,8 @@ impl Have {
     pub fn keep(&mut self, area: &Rect, told: Option<Size>, number: u64)
         requires { IsWithin area.now 65536 65536 }
         ensures size { IsSameSize self.old self.new }
-        ensures stands { (es : List Event) → told_last es ≡ told → HaveStands self.old es → HaveStands self.new (Answered area.now number ∷ es) }
+        ensures stands { (es : List Event) → told_last es ≡ told → HaveStands self.old es
+            → HaveStands self.new (Answered area.now number ∷ es) }
     {
         let tiles = tiles_inside(area, told, self.width, self.height);
         mark(
@@ -187,7 +200,9 @@ impl Have {
     /// sent.
     pub(crate) fn least_of_row(&self, row: u64) -> Option<u64>
         requires { row < tiles_across self.now.height }
-        ensures { (t : ℕ) → row * tiles_across self.now.width ≤ t → t < row * tiles_across self.now.width + tiles_across self.now.width → AtMost result (sent_at self.now t) }
+        ensures { (t : ℕ) → row * tiles_across self.now.width ≤ t
+            → t < row * tiles_across self.now.width + tiles_across self.now.width
+            → AtMost result (sent_at self.now t) }
     {
         self.least[row as usize]
     }

@@ -18,7 +18,8 @@ impl<'a> LackedSince<'a> {
     /// Compares a grid that is behind with a newer one. Both have to be of one screen.
     pub fn new(grid: &'a Grid, newer: &'a Grid, number: u64) -> Self
         requires { (newer.now.width ≡ grid.now.width) × (newer.now.height ≡ grid.now.height) }
-        ensures { (result.grid.now ≡ grid.now) × (result.newer.now ≡ newer.now) × (result.number ≡ number) }
+        ensures { (result.grid.now ≡ grid.now) × (result.newer.now ≡ newer.now)
+            × (result.number ≡ number) }
     {
         LackedSince {
             grid,

@@ -28,7 +28,9 @@ pub trait DueTiles {
     /// False only where no tile of a row of tiles is due, so that a walk may leave the row out.
     fn may_have_due(&self, row: u64) -> bool
         requires { row < tiles_across (height self.now) }
-        ensures { (t : ℕ) → result ≡ false → row * tiles_across (width self.now) ≤ t → t < row * tiles_across (width self.now) + tiles_across (width self.now) → due self.now t ≡ false };
+        ensures { (t : ℕ) → result ≡ false → row * tiles_across (width self.now) ≤ t
+            → t < row * tiles_across (width self.now) + tiles_across (width self.now)
+            → due self.now t ≡ false };
 }
 
 /// Due tiles that stand side by side in one row of tiles.
@@ -61,16 +63,21 @@ impl Model for Walk {
 
     ghost Value = { Walking };
 
-    ghost view = { λ k. record { width = k.width; height = k.height; area = k.area; next = k.next } };
+    ghost view = { λ k.
+        record { width = k.width; height = k.height; area = k.area; next = k.next } };
 
-    ghost invariant = { λ k. IsScreenSize k.width k.height × IsWithin k.area k.width k.height × IsWithin k.met (tiles_across k.width) (tiles_across k.height)
-        × ((t : ℕ) → t < tile_count k.width k.height → holds k.met (t % tiles_across k.width) (t / tiles_across k.width) ≡ meets k.area (tile_rect k.width k.height t)) };
+    ghost invariant = { λ k. IsScreenSize k.width k.height × IsWithin k.area k.width k.height
+        × IsWithin k.met (tiles_across k.width) (tiles_across k.height)
+        × ((t : ℕ) → t < tile_count k.width k.height
+        → holds k.met (t % tiles_across k.width) (t / tiles_across k.width)
+        ≡ meets k.area (tile_rect k.width k.height t)) };
 }
 
 /// The first due tile from `from` on, before `to`, if there is one.
 fn first_due<T: DueTiles>(tiles: &T, from: u64, to: u64) -> Option<u64>
     requires { to ≤ tile_count (T.width tiles.now) (T.height tiles.now) }
-    ensures some { IfSome result (λ t. (from ≤ t) × (t < to) × (T.due tiles.now t ≡ true) × ((k : ℕ) → from ≤ k → k < t → T.due tiles.now k ≡ false)) }
+    ensures some { IfSome result (λ t. (from ≤ t) × (t < to) × (T.due tiles.now t ≡ true)
+        × ((k : ℕ) → from ≤ k → k < t → T.due tiles.now k ≡ false)) }
     ensures none { (k : ℕ) → IfNone result (from ≤ k → k < to → T.due tiles.now k ≡ false) }
 {
     for t in from..to {
@@ -110,8 +117,10 @@ fn find_in_row<T: DueTiles>(
     requires across { across ≡ tiles_across (T.width tiles.now) }
     requires met { IsWithin met.now across (tiles_across (T.height tiles.now)) }
     requires row { (met.now.y ≤ row) × (row < met.now.y + met.now.h) }
-    ensures some { IfSome result (λ run. IsRowRun (is_in (T.due tiles.now) met.now across) (row * across) across next run.0 run.1) }
-    ensures none { (t : ℕ) → IfNone result (next ≤ t → row * across ≤ t → t < row * across + across → is_in (T.due tiles.now) met.now across t ≡ false) }
+    ensures some { IfSome result (λ run.
+        IsRowRun (is_in (T.due tiles.now) met.now across) (row * across) across next run.0 run.1) }
+    ensures none { (t : ℕ) → IfNone result (next ≤ t → row * across ≤ t → t < row * across + across
+        → is_in (T.due tiles.now) met.now across t ≡ false) }
 {
     if !tiles.may_have_due(row) {
         return None;
@@ -129,8 +138,11 @@ fn find<T: DueTiles>(tiles: &T, met: &Rect, across: u64, next: u64) -> Option<(u
     requires size { IsScreenSize (T.width tiles.now) (T.height tiles.now) }
     requires across { across ≡ tiles_across (T.width tiles.now) }
     requires met { IsWithin met.now across (tiles_across (T.height tiles.now)) }
-    ensures some { IfSome result (λ run. IsFound (is_in (T.due tiles.now) met.now across) across (tiles_across (T.height tiles.now)) next run.0 run.1) }
-    ensures none { (t : ℕ) → IfNone result (next ≤ t → t < tile_count (T.width tiles.now) (T.height tiles.now) → is_in (T.due tiles.now) met.now across t ≡ false) }
+    ensures some { IfSome result (λ run. IsFound (is_in (T.due tiles.now) met.now across) across
+        (tiles_across (T.height tiles.now)) next run.0 run.1) }
+    ensures none { (t : ℕ)
+        → IfNone result (next ≤ t → t < tile_count (T.width tiles.now) (T.height tiles.now)
+        → is_in (T.due tiles.now) met.now across t ≡ false) }
 {
     for row in met.y.max(next / across)..met.y + met.h {
         if let Some(run) = find_in_row(tiles, met, across, row, next) {
@@ -160,9 +172,12 @@ impl Walk {
     pub fn next<T: DueTiles>(&mut self, tiles: &T) -> Option<Run>
         requires { (T.width tiles.now ≡ self.old.width) × (T.height tiles.now ≡ self.old.height) }
         ensures same { IsSameWalk self.old self.new }
-        ensures run { IfSome result (λ run. IsNextRun self.old (T.due tiles.now) run × (self.new.next ≡ run.first + run.count)) }
-        ensures done { IfNone result (IsDone self.old (T.due tiles.now) × IsDone self.new (T.due tiles.now)) }
-        ensures left { runs_left self.old (T.due tiles.now) ≡ with_run result (runs_left self.new (T.due tiles.now)) }
+        ensures run { IfSome result (λ run.
+            IsNextRun self.old (T.due tiles.now) run × (self.new.next ≡ run.first + run.count)) }
+        ensures done { IfNone result
+            (IsDone self.old (T.due tiles.now) × IsDone self.new (T.due tiles.now)) }
+        ensures left { runs_left self.old (T.due tiles.now)
+            ≡ with_run result (runs_left self.new (T.due tiles.now)) }
     {
         let across = tiles_along(self.width);
         match find(tiles, &self.met, across, self.next) {
@@ -181,7 +196,11 @@ impl Walk {
     fn run(&self, first: u64, count: u64) -> Run
         requires there { first < tile_count self.now.width self.now.height }
         requires count { count ≤ 256 }
-        ensures { result ≡ record { first = first; count = count; area = common self.now.area (tiles_rect self.now.width first count) } }
+        ensures { result ≡ record {
+          first = first;
+          count = count;
+          area = common self.now.area (tiles_rect self.now.width first count);
+        } }
     {
         let across = tiles_along(self.width);
         let tiles = Rect {

@@ -70,7 +70,9 @@ impl Answer {
     pub fn start(cut: &Cut, area: &Rect, style: Style) -> Self
         requires { IsWithin area.now cut.now.width cut.now.height }
         ensures stands { AnswerStands result cut.now }
-        ensures bytes { update_head_bytes result.count ++ coming result cut.now ≡ answer_bytes (style_in style) (shown cut.now) cut.now.all_were_sent (runs cut.now.width cut.now.height area.now (marked cut.now)) }
+        ensures bytes { update_head_bytes result.count ++ coming result cut.now
+            ≡ answer_bytes (style_in style) (shown cut.now) cut.now.all_were_sent
+            (runs cut.now.width cut.now.height area.now (marked cut.now)) }
     {
         Answer {
             walk: Walk::new(area, cut.width, cut.height),
@@ -98,8 +100,10 @@ impl Answer {
         requires room { 12 + 64 * cut.now.width ≤ length out.old }
         ensures stands { AnswerStands self.new cut.now }
         ensures same { IsSameAnswer self.old self.new }
-        ensures some { IfSome result (λ n. (0 < n) × (n ≤ 12 + 64 * cut.now.width) × WroteNext self.old self.new cut.now (take n out.new)) }
-        ensures none { IfNone result ((coming self.old cut.now ≡ []) × (coming self.new cut.now ≡ [])) }
+        ensures some { IfSome result (λ n. (0 < n) × (n ≤ 12 + 64 * cut.now.width)
+            × WroteNext self.old self.new cut.now (take n out.new)) }
+        ensures none { IfNone result
+            ((coming self.old cut.now ≡ []) × (coming self.new cut.now ≡ [])) }
     {
         let run = self.walk.next(cut)?;
         let before = self.before;

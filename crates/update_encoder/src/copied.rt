@@ -14,7 +14,8 @@ fn same_colours(colours: &[u32], width: usize, height: usize, above: &Rect, area
     requires within { IsWithin area.now width height }
     requires wide { above.now.w ≡ area.now.w }
     requires high { above.now.h ≡ area.now.h }
-    ensures { result ≡ same_numbers (colours_in (value_at width colours.now) above.now) (colours_in (value_at width colours.now) area.now) }
+    ensures { result ≡ same_numbers (colours_in (value_at width colours.now) above.now)
+        (colours_in (value_at width colours.now) area.now) }
 {
     for row in 0..area.h as usize {
         let upper = row_of(colours, width, height, above, row);

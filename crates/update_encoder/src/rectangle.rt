@@ -29,7 +29,8 @@ fn write_copy(area: &Rect, above: &Rect, out: &mut [u8]) -> usize
     requires room { 16 ≤ length out.old }
     requires above { IsWithin above.now 4096 4096 }
     requires within { IsWithin area.now 4096 4096 }
-    ensures written { IsFront (rectangle_bytes area.now 1 (copy_source (Some above.now))) out.new result }
+    ensures written { IsFront (rectangle_bytes area.now 1 (copy_source (Some above.now)))
+        out.new result }
     ensures len { result ≡ 16 }
 {
     let (head, source) = out.split_at_mut(RECTANGLE_HEAD_LEN);
@@ -45,7 +46,9 @@ fn write_copy(area: &Rect, above: &Rect, out: &mut [u8]) -> usize
 /// rows.
 fn kept_forms<'a>(style: &Style, source: &AreaSource<'a>, area: &Rect) -> &'a [Option<TileForm>]
     requires { IsWithin area.now source.now.width source.now.height }
-    ensures { (pixels : Canvas) → LooksLike area.now.w area.now.h pixels (tinted style.now.format (part_of area.now (value_at source.now.width source.now.colours.now))) → AreKept style.now.format area.now.w area.now.h pixels result.now }
+    ensures { (pixels : Canvas) → LooksLike area.now.w area.now.h pixels (tinted style.now.format
+        (part_of area.now (value_at source.now.width source.now.colours.now)))
+        → AreKept style.now.format area.now.w area.now.h pixels result.now }
 {
     match style.runs {
         Runs::OfRows => &[],
@@ -82,7 +85,8 @@ fn encode_rre(
     requires within { IsWithin area.now cut.now.width cut.now.height }
     requires values { area.now.w * area.now.h ≤ length values.old }
     requires room { 4 * (area.now.w * area.now.h) ≤ length out.old }
-    ensures { IsEncodedAs style.now.runs Rre style.now.format area.now.w area.now.h (pixels_in style.now.format (shown cut.now) area.now) out.new result }
+    ensures { IsEncodedAs style.now.runs Rre style.now.format area.now.w area.now.h
+        (pixels_in style.now.format (shown cut.now) area.now) out.new result }
 {
     let (pixels, _) = values.split_at_mut((area.w * area.h) as usize);
     tint_area(style, cut, area, pixels);
@@ -106,10 +110,14 @@ fn encode_values(
     out: &mut [u8],
 ) -> Option<usize>
     requires within { IsWithin area.now cut.now.width cut.now.height }
-    requires kept { (pixels : Canvas) → LooksLike area.now.w area.now.h pixels (tinted style.now.format (part_of area.now (shown cut.now))) → AreKept style.now.format area.now.w area.now.h pixels forms.now }
+    requires kept { (pixels : Canvas)
+        → LooksLike area.now.w area.now.h pixels
+        (tinted style.now.format (part_of area.now (shown cut.now)))
+        → AreKept style.now.format area.now.w area.now.h pixels forms.now }
     requires values { area.now.w * area.now.h ≤ length values.old }
     requires room { 4 * (area.now.w * area.now.h) ≤ length out.old }
-    ensures { IsEncodedAs style.now.runs Hextile style.now.format area.now.w area.now.h (pixels_in style.now.format (shown cut.now) area.now) out.new result }
+    ensures { IsEncodedAs style.now.runs Hextile style.now.format area.now.w area.now.h
+        (pixels_in style.now.format (shown cut.now) area.now) out.new result }
 {
     let (pixels, _) = values.split_at_mut((area.w * area.h) as usize);
     tint_area(style, cut, area, pixels);
@@ -132,7 +140,8 @@ fn encode_values(
 fn copy_encoded(style: &Style, cut: &Cut, area: &Rect, out: &mut [u8]) -> Option<usize>
     requires within { IsWithin area.now cut.now.width cut.now.height }
     requires room { 4 * (area.now.w * area.now.h) ≤ length out.old }
-    ensures { IfSome result (λ n. IsEncodedAs style.now.runs Hextile style.now.format area.now.w area.now.h (pixels_in style.now.format (shown cut.now) area.now) out.new (Some n)) }
+    ensures { IfSome result (λ n. IsEncodedAs style.now.runs Hextile style.now.format area.now.w
+        area.now.h (pixels_in style.now.format (shown cut.now) area.now) out.new (Some n)) }
 {
     if style.runs != Runs::Joined {
         return None;
@@ -156,7 +165,8 @@ fn encode_hextile(
     requires within { IsWithin area.now cut.now.width cut.now.height }
     requires values { area.now.w * area.now.h ≤ length values.old }
     requires room { 4 * (area.now.w * area.now.h) ≤ length out.old }
-    ensures { IsEncodedAs style.now.runs Hextile style.now.format area.now.w area.now.h (pixels_in style.now.format (shown cut.now) area.now) out.new result }
+    ensures { IsEncodedAs style.now.runs Hextile style.now.format area.now.w area.now.h
+        (pixels_in style.now.format (shown cut.now) area.now) out.new result }
 {
     if let Some(len) = copy_encoded(style, cut, area, out) {
         return Some(len);
@@ -181,7 +191,8 @@ fn encode(
     requires within { IsWithin area.now cut.now.width cut.now.height }
     requires values { area.now.w * area.now.h ≤ length values.old }
     requires room { 4 * (area.now.w * area.now.h) ≤ length out.old }
-    ensures { IsEncodedAs style.now.runs style.now.choice.kind style.now.format area.now.w area.now.h (pixels_in style.now.format (shown cut.now) area.now) out.new result }
+    ensures { IsEncodedAs style.now.runs style.now.choice.kind style.now.format
+        area.now.w area.now.h (pixels_in style.now.format (shown cut.now) area.now) out.new result }
 {
     match style.choice.kind {
         Encoding::Raw => None,
@@ -202,7 +213,8 @@ fn write_encoded(
     requires within { IsWithin area.now cut.now.width cut.now.height }
     requires values { area.now.w * area.now.h ≤ length values.old }
     requires room { 12 + 4 * (area.now.w * area.now.h) ≤ length out.old }
-    ensures written { IsSaved style.now.runs style.now.choice.kind style.now.format area.now (pixels_in style.now.format (shown cut.now) area.now) out.new result }
+    ensures written { IsSaved style.now.runs style.now.choice.kind style.now.format area.now
+        (pixels_in style.now.format (shown cut.now) area.now) out.new result }
     ensures room { IfSome result (λ n. n ≤ 12 + 4 * (area.now.w * area.now.h)) }
 {
     let (head, rest) = out.split_at_mut(RECTANGLE_HEAD_LEN);
@@ -216,7 +228,8 @@ fn write_encoded(
 fn write_raw(cut: &Cut, area: &Rect, format: &Format, out: &mut [u8]) -> usize
     requires within { IsWithin area.now cut.now.width cut.now.height }
     requires room { 12 + 4 * (area.now.w * area.now.h) ≤ length out.old }
-    ensures written { IsFront (rectangle_bytes area.now 0 (form Raw format.now area.now.w area.now.h (pixels_in format.now (shown cut.now) area.now))) out.new result }
+    ensures written { IsFront (rectangle_bytes area.now 0 (form Raw format.now area.now.w area.now.h
+        (pixels_in format.now (shown cut.now) area.now))) out.new result }
     ensures room { result ≤ 12 + 4 * (area.now.w * area.now.h) }
 {
     let len = format.bytes() * (area.w * area.h) as usize;
@@ -239,8 +252,11 @@ fn write_repeated(
     requires before { LiesOn cut.now.width cut.now.height before }
     requires within { IsWithin area.now cut.now.width cut.now.height }
     requires room { 16 ≤ length out.old }
-    ensures some { IfSome result (λ n. (n ≡ 16) × ((may_copy && repeats_one (shown cut.now) before area.now) ≡ true) × IsFront (rectangle_bytes area.now 1 (copy_source before)) out.new n) }
-    ensures none { IfNone result ((may_copy && repeats_one (shown cut.now) before area.now) ≡ false) }
+    ensures some { IfSome result (λ n.
+        (n ≡ 16) × ((may_copy && repeats_one (shown cut.now) before area.now) ≡ true)
+        × IsFront (rectangle_bytes area.now 1 (copy_source before)) out.new n) }
+    ensures none { IfNone result
+        ((may_copy && repeats_one (shown cut.now) before area.now) ≡ false) }
 {
     let above = before?;
     let (width, height) = (cut.width as usize, cut.height as usize);
@@ -267,7 +283,8 @@ pub fn write_rectangle(
     requires some { 1 ≤ area.now.w * area.now.h }
     requires values { area.now.w * area.now.h ≤ length values.old }
     requires room { 12 + 4 * (area.now.w * area.now.h) ≤ length out.old }
-    ensures written { IsFront (spelled (style_in style.now) (shown cut.now) may_copy before area.now) out.new result }
+    ensures written { IsFront
+        (spelled (style_in style.now) (shown cut.now) may_copy before area.now) out.new result }
     ensures some { 12 ≤ result }
     ensures room { result ≤ 12 + 4 * (area.now.w * area.now.h) }
 {

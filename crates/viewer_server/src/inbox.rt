@@ -32,7 +32,10 @@ impl Model for Inbox {
 
     ghost Value = { Unpassed };
 
-    ghost view = { λ i. record { unread = drop i.start (take i.end i.bytes); waiting = option_map input_in i.waiting } };
+    ghost view = { λ i. record {
+      unread = drop i.start (take i.end i.bytes);
+      waiting = option_map input_in i.waiting;
+    } };
 
     ghost invariant = { λ i. (i.start ≤ i.end) × (i.end ≤ length i.bytes) };
 }
@@ -125,8 +128,10 @@ impl Inbox {
     /// Makes the next release the input that waits. It answers whether there is one.
     pub(crate) fn release(&mut self, session: &mut Session) -> bool
         requires { self.old.waiting ≡ None }
-        ensures next { left_in session.old.held ≡ waiting_list self.new.waiting ++ left_in session.new.held }
-        ensures none { result ≡ false → (self.new.waiting ≡ None) × (left_in session.new.held ≡ []) }
+        ensures next { left_in session.old.held
+            ≡ waiting_list self.new.waiting ++ left_in session.new.held }
+        ensures none { result ≡ false
+            → (self.new.waiting ≡ None) × (left_in session.new.held ≡ []) }
         ensures others { session.new ≡ record session.old { held = session.new.held } }
     {
         self.waiting = session.leave();

@@ -32,7 +32,9 @@ where
     ensures first { visit.new.first ≡ visit.old.first }
     ensures link { visit.new.link ≡ visit.old.link }
     ensures source { visit.new.source ≡ visit.old.source }
-    ensures leaves { Leaves (F.was_set stop.now) K.may_refuse (waiting_list visit.old.inbox.waiting ++ left_in visit.old.session.held) (K.sent visit.old.sink) (K.sent visit.new.sink) result }
+    ensures leaves { Leaves (F.was_set stop.now) K.may_refuse
+        (waiting_list visit.old.inbox.waiting ++ left_in visit.old.session.held)
+        (K.sent visit.old.sink) (K.sent visit.new.sink) result }
 {
     for _ in rt.forever() {
         if !visit.waits() && !visit.release() {

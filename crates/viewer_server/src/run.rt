@@ -50,8 +50,12 @@ where
     requires empty { visit.old.inbox ≡ all_passed }
     ensures first { visit.new.first ≡ visit.old.first }
     ensures grows { Begins (S.known visit.old.source) (S.known visit.new.source) }
-    ensures serves { (s : Setup) (role : roles.Role) (greet : Bool) → Stands s visit.old.session (new_viewer role greet)
-        → Serves S.looks S.cuts S.may_end (F.was_set stop.now) K.may_refuse visit.old.source visit.new.source (S.known visit.new.source) s (new_viewer role greet) (K.sent visit.old.sink) (K.sent visit.new.sink) result (L.state visit.old.link) (L.state visit.new.link) }
+    ensures serves { (s : Setup) (role : roles.Role) (greet : Bool)
+        → Stands s visit.old.session (new_viewer role greet)
+        → Serves S.looks S.cuts S.may_end (F.was_set stop.now) K.may_refuse
+        visit.old.source visit.new.source (S.known visit.new.source) s
+        (new_viewer role greet) (K.sent visit.old.sink) (K.sent visit.new.sink) result
+        (L.state visit.old.link) (L.state visit.new.link) }
 {
     let served = serve(rt, visit, stop, rest, progress);
     visit.end();

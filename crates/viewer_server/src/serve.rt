@@ -25,11 +25,15 @@ pub(crate) fn offer<S: ScreenSource, P: Progress>(
     session: &mut Session,
     progress: &P,
 ) -> Result<bool, Fault>
-    requires { (S.width source.old ≡ session.old.width) × (S.height source.old ≡ session.old.height) }
-    ensures source { (S.width source.new ≡ S.width source.old) × (S.height source.new ≡ S.height source.old) }
-    ensures session { (session.new.width ≡ session.old.width) × (session.new.height ≡ session.old.height) }
+    requires { (S.width source.old ≡ session.old.width)
+        × (S.height source.old ≡ session.old.height) }
+    ensures source { (S.width source.new ≡ S.width source.old)
+        × (S.height source.new ≡ S.height source.old) }
+    ensures session { (session.new.width ≡ session.old.width)
+        × (session.new.height ≡ session.old.height) }
     ensures grows { Begins (S.known source.old) (S.known source.new) }
-    ensures offers { Offers S.looks S.cuts S.may_end source.old source.new session.old session.new (S.known source.new) (S.answered source.old) (S.answered source.new) result }
+    ensures offers { Offers S.looks S.cuts S.may_end source.old source.new session.old session.new
+        (S.known source.new) (S.answered source.old) (S.answered source.new) result }
 {
     if !session.out().is_empty() {
         return Ok(false);
@@ -63,7 +67,8 @@ pub(crate) fn relay<K: InputSink>(
     inbox: &mut Inbox,
 ) -> Result<bool, Break>
     ensures same { IsSameSession session.old session.new }
-    ensures goes_on { GoesOn K.may_refuse result session.old session.new inbox.old inbox.new (K.sent sink.old) (K.sent sink.new) }
+    ensures goes_on { GoesOn K.may_refuse result session.old session.new inbox.old inbox.new
+        (K.sent sink.old) (K.sent sink.new) }
     ensures left { WaitsIfLeft inbox.new }
 {
     let is_full = match inbox.pass(sink) {
@@ -85,7 +90,8 @@ pub(crate) fn hear<L: Link>(
 ) -> Result<bool, Fault>
     requires { inbox.old ≡ all_passed }
     ensures same { IsSameSession session.old session.new }
-    ensures hears { Hears result session.old session.new inbox.new (L.state link.old) (L.state link.new) }
+    ensures hears { Hears result session.old session.new inbox.new
+        (L.state link.old) (L.state link.new) }
 {
     match inbox.fill(link) {
         Took::Bytes(_) => {
@@ -129,8 +135,12 @@ where
     requires empty { visit.old.inbox ≡ all_passed }
     ensures first { visit.new.first ≡ visit.old.first }
     ensures grows { Begins (S.known visit.old.source) (S.known visit.new.source) }
-    ensures serves { (s : Setup) (role : roles.Role) (greet : Bool) → Stands s visit.old.session (new_viewer role greet)
-        → HasServed S.looks S.cuts S.may_end (F.was_set stop.now) K.may_refuse visit.old.source visit.new.source (S.known visit.new.source) s (new_viewer role greet) visit.new.session visit.new.inbox (K.sent visit.old.sink) (K.sent visit.new.sink) result (L.state visit.old.link) (L.state visit.new.link) }
+    ensures serves { (s : Setup) (role : roles.Role) (greet : Bool)
+        → Stands s visit.old.session (new_viewer role greet)
+        → HasServed S.looks S.cuts S.may_end (F.was_set stop.now) K.may_refuse
+        visit.old.source visit.new.source (S.known visit.new.source) s (new_viewer role greet)
+        visit.new.session visit.new.inbox (K.sent visit.old.sink) (K.sent visit.new.sink) result
+        (L.state visit.old.link) (L.state visit.new.link) }
 {
     for _ in rt.forever() {
         if stop.is_set() {

@@ -78,16 +78,22 @@ pub struct Visit<'a, L: Link, S: ScreenSource, K: InputSink, T: Drop> {
     first: &'a Beginning<L, S, K>,
     key: PhantomData<T>,
     ghost screen: { (S.width source ≡ session.width) × (S.height source ≡ session.height) },
-    ghost lawful: { ∥ ((s : Setup) (role : roles.Role) (greet : Bool) → Stands s first.now.session.value (new_viewer role greet) → IsVisited is_served S.looks S.cuts first.now.source.value source (S.known source) (S.answered source) s (new_viewer role greet) session inbox (K.sent first.now.sink.value) (K.sent sink) (L.state first.now.link.value) (L.state link)) ∥₁ },
+    ghost lawful: { ∥ ((s : Setup) (role : roles.Role) (greet : Bool)
+        → Stands s first.now.session.value (new_viewer role greet)
+        → IsVisited is_served S.looks S.cuts first.now.source.value source (S.known source)
+        (S.answered source) s (new_viewer role greet) session inbox (K.sent first.now.sink.value)
+        (K.sent sink) (L.state first.now.link.value) (L.state link)) ∥₁ },
 }
 
 impl<'a, L: Link, S: ScreenSource, K: InputSink, T: Drop> Visit<'a, L, S, K, T> {
     /// A visit that begins. The session is new: it has cut nothing yet.
     pub fn new(first: &'a Beginning<L, S, K>, link: L, source: S, sink: K, session: Session) -> Self
-        requires first { (first.now.link.value ≡ link) × (first.now.source.value ≡ source) × (first.now.sink.value ≡ sink) × (first.now.session.value ≡ session) }
+        requires first { (first.now.link.value ≡ link) × (first.now.source.value ≡ source)
+            × (first.now.sink.value ≡ sink) × (first.now.session.value ≡ session) }
         requires screen { (S.width source ≡ session.width) × (S.height source ≡ session.height) }
         requires uncut { session.asked.last ≡ None }
-        ensures parts { (result.link ≡ link) × (result.source ≡ source) × (result.sink ≡ sink) × (result.session ≡ session) }
+        ensures parts { (result.link ≡ link) × (result.source ≡ source) × (result.sink ≡ sink)
+            × (result.session ≡ session) }
         ensures begins { (result.inbox ≡ all_passed) × (result.is_served ≡ true) }
         ensures first { result.first ≡ first.entry }
     {
@@ -105,7 +111,8 @@ impl<'a, L: Link, S: ScreenSource, K: InputSink, T: Drop> Visit<'a, L, S, K, T> 
 
     /// What the visit had, as it is left.
     pub fn into_parts(self, _key: T) -> (L, S, K, Session)
-        ensures { (result.0 ≡ self.entry.link) × (result.1 ≡ self.entry.source) × (result.2 ≡ self.entry.sink) × (result.3 ≡ self.entry.session) }
+        ensures { (result.0 ≡ self.entry.link) × (result.1 ≡ self.entry.source)
+            × (result.2 ≡ self.entry.sink) × (result.3 ≡ self.entry.session) }
     {
         let Visit {
             link,
@@ -122,7 +129,12 @@ impl<'a, L: Link, S: ScreenSource, K: InputSink, T: Drop> Visit<'a, L, S, K, T> 
 
     /// It does nothing. Its clause says what is true of the visit at every moment.
     pub fn so_far(&self)
-        ensures { ∥ ((s : Setup) (role : roles.Role) (greet : Bool) → Stands s self.now.first.now.session.value (new_viewer role greet) → ServesSoFar S.looks S.cuts self.now.first.now.source.value self.now.source (S.known self.now.source) s (new_viewer role greet) (K.sent self.now.first.now.sink.value) (K.sent self.now.sink) (L.state self.now.first.now.link.value) (L.state self.now.link)) ∥₁ }
+        ensures { ∥ ((s : Setup) (role : roles.Role) (greet : Bool)
+            → Stands s self.now.first.now.session.value (new_viewer role greet)
+            → ServesSoFar S.looks S.cuts self.now.first.now.source.value
+            self.now.source (S.known self.now.source) s (new_viewer role greet)
+            (K.sent self.now.first.now.sink.value) (K.sent self.now.sink)
+            (L.state self.now.first.now.link.value) (L.state self.now.link)) ∥₁ }
     {}
 
     /// How many answers were begun for the viewer, for a log.
@@ -147,12 +159,19 @@ impl<'a, L: Link, S: ScreenSource, K: InputSink, T: Drop> Visit<'a, L, S, K, T> 
     /// Passes on an input that waits, and reads the bytes after it. It answers whether the sink is full.
     pub(crate) fn relay(&mut self) -> Result<bool, Break>
         requires { self.old.is_served ≡ true }
-        ensures keeps { (a : S) (s : Setup) (p : Viewer) (x : List Input) (l : LinkState) → IsUnderWay S.looks S.cuts a self.old.source (S.known self.old.source) (S.answered self.old.source) s p self.old.session self.old.inbox x (K.sent self.old.sink) false l (L.state self.old.link)
-            → IsUnderWay S.looks S.cuts a self.new.source (S.known self.new.source) (S.answered self.new.source) s p self.new.session self.new.inbox x (K.sent self.new.sink) false l (L.state self.new.link) }
+        ensures keeps { (a : S) (s : Setup) (p : Viewer) (x : List Input) (l : LinkState)
+            → IsUnderWay S.looks S.cuts a self.old.source (S.known self.old.source)
+            (S.answered self.old.source) s p self.old.session self.old.inbox
+            x (K.sent self.old.sink) false l (L.state self.old.link)
+            → IsUnderWay S.looks S.cuts a self.new.source (S.known self.new.source)
+            (S.answered self.new.source) s p self.new.session self.new.inbox x
+            (K.sent self.new.sink) false l (L.state self.new.link) }
         ensures same { IsSameSession self.old.session self.new.session }
-        ensures goes_on { GoesOn K.may_refuse result self.old.session self.new.session self.old.inbox self.new.inbox (K.sent self.old.sink) (K.sent self.new.sink) }
+        ensures goes_on { GoesOn K.may_refuse result self.old.session self.new.session
+            self.old.inbox self.new.inbox (K.sent self.old.sink) (K.sent self.new.sink) }
         ensures left { WaitsIfLeft self.new.inbox }
-        ensures others { (self.new.link ≡ self.old.link) × (self.new.source ≡ self.old.source) × (self.new.is_served ≡ true) × (self.new.first ≡ self.old.first) }
+        ensures others { (self.new.link ≡ self.old.link) × (self.new.source ≡ self.old.source)
+            × (self.new.is_served ≡ true) × (self.new.first ≡ self.old.first) }
     {
         relay(&mut self.sink, &mut self.session, &mut self.inbox)
     }
@@ -161,10 +180,19 @@ impl<'a, L: Link, S: ScreenSource, K: InputSink, T: Drop> Visit<'a, L, S, K, T> 
     pub(crate) fn offer<P: Progress>(&mut self, progress: &P) -> Result<bool, Fault>
         requires { self.old.is_served ≡ true }
         ensures grows { Begins (S.known self.old.source) (S.known self.new.source) }
-        ensures keeps { IfOk result (λ is_offered. (a : S) (s : Setup) (p : Viewer) (x : List Input) (l : LinkState) → IsUnderWay S.looks S.cuts a self.old.source (S.known self.old.source) (S.answered self.old.source) s p self.old.session self.old.inbox x (K.sent self.old.sink) false l (L.state self.old.link)
-            → IsUnderWay S.looks S.cuts a self.new.source (S.known self.new.source) (S.answered self.new.source) s p self.new.session self.new.inbox x (K.sent self.new.sink) is_offered l (L.state self.new.link)) }
-        ensures offers { Offers S.looks S.cuts S.may_end self.old.source self.new.source self.old.session self.new.session (S.known self.new.source) (S.answered self.old.source) (S.answered self.new.source) result }
-        ensures others { (self.new.link ≡ self.old.link) × (self.new.sink ≡ self.old.sink) × (self.new.inbox ≡ self.old.inbox) × (self.new.first ≡ self.old.first) }
+        ensures keeps { IfOk result (λ is_offered.
+            (a : S) (s : Setup) (p : Viewer) (x : List Input) (l : LinkState)
+            → IsUnderWay S.looks S.cuts a self.old.source (S.known self.old.source)
+            (S.answered self.old.source) s p self.old.session self.old.inbox
+            x (K.sent self.old.sink) false l (L.state self.old.link)
+            → IsUnderWay S.looks S.cuts a self.new.source (S.known self.new.source)
+            (S.answered self.new.source) s p self.new.session self.new.inbox x
+            (K.sent self.new.sink) is_offered l (L.state self.new.link)) }
+        ensures offers { Offers S.looks S.cuts S.may_end self.old.source self.new.source
+            self.old.session self.new.session (S.known self.new.source)
+            (S.answered self.old.source) (S.answered self.new.source) result }
+        ensures others { (self.new.link ≡ self.old.link) × (self.new.sink ≡ self.old.sink)
+            × (self.new.inbox ≡ self.old.inbox) × (self.new.first ≡ self.old.first) }
         ensures ok { IfOk result (λ _. self.new.is_served ≡ true) }
     {
         let offered = offer(&mut self.source, &mut self.session, progress);
@@ -175,10 +203,19 @@ impl<'a, L: Link, S: ScreenSource, K: InputSink, T: Drop> Visit<'a, L, S, K, T> 
     /// Gives the link as many of the unsent bytes as it takes now.
     pub(crate) fn say(&mut self) -> Result<(), Fault>
         requires { self.old.is_served ≡ true }
-        ensures keeps { (a : S) (s : Setup) (p : Viewer) (x : List Input) (l : LinkState) (is_offered : Bool) → IsUnderWay S.looks S.cuts a self.old.source (S.known self.old.source) (S.answered self.old.source) s p self.old.session self.old.inbox x (K.sent self.old.sink) is_offered l (L.state self.old.link)
-            → IsUnderWay S.looks S.cuts a self.new.source (S.known self.new.source) (S.answered self.new.source) s p self.new.session self.new.inbox x (K.sent self.new.sink) is_offered l (L.state self.new.link) }
-        ensures why { SaysNoMore result self.new.session (L.state self.old.link) (L.state self.new.link) }
-        ensures others { (self.new.source ≡ self.old.source) × (self.new.sink ≡ self.old.sink) × (self.new.inbox ≡ self.old.inbox) × (self.new.is_served ≡ true) × (self.new.first ≡ self.old.first) }
+        ensures keeps { (a : S) (s : Setup) (p : Viewer)
+            (x : List Input) (l : LinkState) (is_offered : Bool)
+            → IsUnderWay S.looks S.cuts a self.old.source (S.known self.old.source)
+            (S.answered self.old.source) s p self.old.session self.old.inbox
+            x (K.sent self.old.sink) is_offered l (L.state self.old.link)
+            → IsUnderWay S.looks S.cuts a self.new.source (S.known self.new.source)
+            (S.answered self.new.source) s p self.new.session self.new.inbox x
+            (K.sent self.new.sink) is_offered l (L.state self.new.link) }
+        ensures why { SaysNoMore result self.new.session
+            (L.state self.old.link) (L.state self.new.link) }
+        ensures others { (self.new.source ≡ self.old.source) × (self.new.sink ≡ self.old.sink)
+            × (self.new.inbox ≡ self.old.inbox) × (self.new.is_served ≡ true)
+            × (self.new.first ≡ self.old.first) }
     {
         say(&mut self.link, &mut self.session)
     }
@@ -187,21 +224,37 @@ impl<'a, L: Link, S: ScreenSource, K: InputSink, T: Drop> Visit<'a, L, S, K, T> 
     pub(crate) fn hear(&mut self) -> Result<bool, Fault>
         requires served { self.old.is_served ≡ true }
         requires empty { self.old.inbox ≡ all_passed }
-        ensures keeps { (a : S) (s : Setup) (p : Viewer) (x : List Input) (l : LinkState) (is_offered : Bool) → IsUnderWay S.looks S.cuts a self.old.source (S.known self.old.source) (S.answered self.old.source) s p self.old.session self.old.inbox x (K.sent self.old.sink) is_offered l (L.state self.old.link)
-            → IsUnderWay S.looks S.cuts a self.new.source (S.known self.new.source) (S.answered self.new.source) s p self.new.session self.new.inbox x (K.sent self.new.sink) false l (L.state self.new.link) }
+        ensures keeps { (a : S) (s : Setup) (p : Viewer)
+            (x : List Input) (l : LinkState) (is_offered : Bool)
+            → IsUnderWay S.looks S.cuts a self.old.source (S.known self.old.source)
+            (S.answered self.old.source) s p self.old.session self.old.inbox
+            x (K.sent self.old.sink) is_offered l (L.state self.old.link)
+            → IsUnderWay S.looks S.cuts a self.new.source (S.known self.new.source)
+            (S.answered self.new.source) s p self.new.session self.new.inbox x
+            (K.sent self.new.sink) false l (L.state self.new.link) }
         ensures same { IsSameSession self.old.session self.new.session }
-        ensures hears { Hears result self.old.session self.new.session self.new.inbox (L.state self.old.link) (L.state self.new.link) }
-        ensures others { (self.new.source ≡ self.old.source) × (self.new.sink ≡ self.old.sink) × (self.new.is_served ≡ true) × (self.new.first ≡ self.old.first) }
+        ensures hears { Hears result self.old.session self.new.session self.new.inbox
+            (L.state self.old.link) (L.state self.new.link) }
+        ensures others { (self.new.source ≡ self.old.source) × (self.new.sink ≡ self.old.sink)
+            × (self.new.is_served ≡ true) × (self.new.first ≡ self.old.first) }
     {
         hear(&mut self.link, &mut self.session, &mut self.inbox)
     }
 
     /// Sends on what the link keeps.
     pub(crate) fn flush(&mut self)
-        ensures keeps { (a : S) (s : Setup) (p : Viewer) (x : List Input) (l : LinkState) (is_offered : Bool) → IsUnderWay S.looks S.cuts a self.old.source (S.known self.old.source) (S.answered self.old.source) s p self.old.session self.old.inbox x (K.sent self.old.sink) is_offered l (L.state self.old.link)
-            → IsUnderWay S.looks S.cuts a self.new.source (S.known self.new.source) (S.answered self.new.source) s p self.new.session self.new.inbox x (K.sent self.new.sink) is_offered l (L.state self.new.link) }
+        ensures keeps { (a : S) (s : Setup) (p : Viewer)
+            (x : List Input) (l : LinkState) (is_offered : Bool)
+            → IsUnderWay S.looks S.cuts a self.old.source (S.known self.old.source)
+            (S.answered self.old.source) s p self.old.session self.old.inbox
+            x (K.sent self.old.sink) is_offered l (L.state self.old.link)
+            → IsUnderWay S.looks S.cuts a self.new.source (S.known self.new.source)
+            (S.answered self.new.source) s p self.new.session self.new.inbox x
+            (K.sent self.new.sink) is_offered l (L.state self.new.link) }
         ensures link { L.state self.new.link ≡ L.state self.old.link }
-        ensures others { (self.new.source ≡ self.old.source) × (self.new.sink ≡ self.old.sink) × (self.new.session ≡ self.old.session) × (self.new.inbox ≡ self.old.inbox) × (self.new.is_served ≡ self.old.is_served) × (self.new.first ≡ self.old.first) }
+        ensures others { (self.new.source ≡ self.old.source) × (self.new.sink ≡ self.old.sink)
+            × (self.new.session ≡ self.old.session) × (self.new.inbox ≡ self.old.inbox)
+            × (self.new.is_served ≡ self.old.is_served) × (self.new.first ≡ self.old.first) }
     {
         self.link.flush();
     }
@@ -209,7 +262,9 @@ impl<'a, L: Link, S: ScreenSource, K: InputSink, T: Drop> Visit<'a, L, S, K, T> 
     /// Serves the viewer no longer: what is left of its input goes to the sink from now on.
     pub(crate) fn end(&mut self)
         ensures link { L.state self.new.link ≡ L.state self.old.link }
-        ensures others { (self.new.source ≡ self.old.source) × (self.new.sink ≡ self.old.sink) × (self.new.session ≡ self.old.session) × (self.new.inbox ≡ self.old.inbox) × (self.new.first ≡ self.old.first) }
+        ensures others { (self.new.source ≡ self.old.source) × (self.new.sink ≡ self.old.sink)
+            × (self.new.session ≡ self.old.session) × (self.new.inbox ≡ self.old.inbox)
+            × (self.new.first ≡ self.old.first) }
         ensures served { self.new.is_served ≡ false }
     {
         self.source.want_forms(None);
@@ -220,8 +275,11 @@ impl<'a, L: Link, S: ScreenSource, K: InputSink, T: Drop> Visit<'a, L, S, K, T> 
     /// Passes the input that waits to the sink, and answers whether the sink is full.
     pub(crate) fn pass(&mut self) -> Result<bool, Fault>
         requires { self.old.is_served ≡ false }
-        ensures passes { Passes K.may_refuse result self.old.inbox self.new.inbox (K.sent self.old.sink) (K.sent self.new.sink) }
-        ensures others { (self.new.link ≡ self.old.link) × (self.new.source ≡ self.old.source) × (self.new.session ≡ self.old.session) × (self.new.is_served ≡ false) × (self.new.first ≡ self.old.first) }
+        ensures passes { Passes K.may_refuse result self.old.inbox self.new.inbox
+            (K.sent self.old.sink) (K.sent self.new.sink) }
+        ensures others { (self.new.link ≡ self.old.link) × (self.new.source ≡ self.old.source)
+            × (self.new.session ≡ self.old.session) × (self.new.is_served ≡ false)
+            × (self.new.first ≡ self.old.first) }
     {
         self.inbox.pass(&mut self.sink)
     }
@@ -230,9 +288,13 @@ impl<'a, L: Link, S: ScreenSource, K: InputSink, T: Drop> Visit<'a, L, S, K, T> 
     pub(crate) fn release(&mut self) -> bool
         requires served { self.old.is_served ≡ false }
         requires none { self.old.inbox.waiting ≡ None }
-        ensures next { left_in self.old.session.held ≡ waiting_list self.new.inbox.waiting ++ left_in self.new.session.held }
-        ensures none { result ≡ false → (self.new.inbox.waiting ≡ None) × (left_in self.new.session.held ≡ []) }
-        ensures others { (self.new.link ≡ self.old.link) × (self.new.source ≡ self.old.source) × (self.new.sink ≡ self.old.sink) × (self.new.is_served ≡ false) × (self.new.first ≡ self.old.first) }
+        ensures next { left_in self.old.session.held
+            ≡ waiting_list self.new.inbox.waiting ++ left_in self.new.session.held }
+        ensures none { result ≡ false
+            → (self.new.inbox.waiting ≡ None) × (left_in self.new.session.held ≡ []) }
+        ensures others { (self.new.link ≡ self.old.link) × (self.new.source ≡ self.old.source)
+            × (self.new.sink ≡ self.old.sink) × (self.new.is_served ≡ false)
+            × (self.new.first ≡ self.old.first) }
     {
         self.inbox.release(&mut self.session)
     }

@@ -43,8 +43,10 @@ impl Coming {
         requires room { piece.old.room ≡ longest_piece cut.now.width }
         ensures room { piece.new.room ≡ piece.old.room }
         ensures is_of { IsOf self.new cut.now }
-        ensures bytes { all_coming self.old cut.now ≡ piece.new.unsent ++ all_coming self.new cut.now }
-        ensures shows { length piece.new.unsent ≡ 0 → (all_coming self.new cut.now ≡ []) × (piece.new.filled ≡ 0) }
+        ensures bytes { all_coming self.old cut.now
+            ≡ piece.new.unsent ++ all_coming self.new cut.now }
+        ensures shows { length piece.new.unsent ≡ 0
+            → (all_coming self.new cut.now ≡ []) × (piece.new.filled ≡ 0) }
     {
         if self.text {
             self.text = false;
@@ -68,8 +70,10 @@ impl Coming {
         ensures text { self.new.text ≡ false }
         ensures size { self.new.size ≡ None }
         ensures is_of { IsOf self.new cut.now }
-        ensures bytes { answer_coming self.old.head self.old.answer cut.now ≡ piece.new.unsent ++ answer_coming self.new.head self.new.answer cut.now }
-        ensures shows { length piece.new.unsent ≡ 0 → (answer_coming self.new.head self.new.answer cut.now ≡ []) × (piece.new.filled ≡ 0) }
+        ensures bytes { answer_coming self.old.head self.old.answer cut.now
+            ≡ piece.new.unsent ++ answer_coming self.new.head self.new.answer cut.now }
+        ensures shows { length piece.new.unsent ≡ 0
+            → (answer_coming self.new.head self.new.answer cut.now ≡ []) × (piece.new.filled ≡ 0) }
     {
         match &mut self.answer {
             None => piece.clear(),

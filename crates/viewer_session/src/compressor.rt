@@ -49,7 +49,8 @@ impl Compressor {
         begun: bool,
     ) -> Option<(bool, Vec<u8>)>
         requires { IsWithin area.now cut.now.width cut.now.height }
-        ensures { IfSome result (λ whole. IsWholeOf (style_in style.now) cut.now area.now begun whole.0 whole.1.items) }
+        ensures { IfSome result (λ whole.
+            IsWholeOf (style_in style.now) cut.now area.now begun whole.0 whole.1.items) }
     {
         let mut bytes = Vec::new(self.alloc);
         let writer = self.writer()?;

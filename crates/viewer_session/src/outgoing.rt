@@ -39,7 +39,12 @@ impl Model for Outgoing {
 
     ghost Value = { Sending };
 
-    ghost view = { λ o. record { cut = o.cut; filled = o.piece.filled; piece = o.piece.unsent; unsent = o.piece.unsent ++ all_coming o.coming o.cut } };
+    ghost view = { λ o. record {
+      cut = o.cut;
+      filled = o.piece.filled;
+      piece = o.piece.unsent;
+      unsent = o.piece.unsent ++ all_coming o.coming o.cut;
+    } };
 
     ghost invariant = { λ o. IsOutgoing o.cut o.piece (length o.strip.items) o.coming };
 }
@@ -50,7 +55,8 @@ impl Outgoing {
     pub(crate) fn new(alloc: Global, width: u64, height: u64) -> Result<Self, Fault>
         requires { IsScreenSize width height }
         ensures size { IfOk result (λ out. (out.cut.width ≡ width) × (out.cut.height ≡ height)) }
-        ensures empty { IfOk result (λ out. (out.filled ≡ 0) × (out.piece ≡ []) × (out.unsent ≡ [])) }
+        ensures empty { IfOk result (λ out.
+            (out.filled ≡ 0) × (out.piece ≡ []) × (out.unsent ≡ [])) }
         ensures err { IfErr result (λ fault. fault ≡ Memory) }
     {
         let cut = Cut::new(alloc, width, height)?;
@@ -87,7 +93,8 @@ impl Outgoing {
         ensures cut { self.new.cut ≡ self.old.cut }
         ensures unsent { self.new.unsent ≡ drop count self.old.unsent }
         ensures few { length self.old.piece ≤ length self.old.unsent }
-        ensures alone { self.old.unsent ≡ self.old.piece → (self.new.unsent ≡ self.new.piece) × (self.new.filled ≤ self.old.filled) }
+        ensures alone { self.old.unsent ≡ self.old.piece
+            → (self.new.unsent ≡ self.new.piece) × (self.new.filled ≤ self.old.filled) }
     {
         self.piece.sent(count);
         if self.piece.unsent().is_empty() {
@@ -117,15 +124,21 @@ impl Outgoing {
     ) -> Result<u64, Fault>
         requires sent { length self.old.unsent ≡ 0 }
         requires within { IsWithin area.now (S.width source.old) (S.height source.old) }
-        requires screen { (have.now.width ≡ S.width source.old) × (have.now.height ≡ S.height source.old) }
-        requires room { (self.old.cut.width ≡ S.width source.old) × (self.old.cut.height ≡ S.height source.old) }
-        ensures size { (S.width source.new ≡ S.width source.old) × (S.height source.new ≡ S.height source.old) }
-        ensures room { (self.new.cut.width ≡ self.old.cut.width) × (self.new.cut.height ≡ self.old.cut.height) }
+        requires screen { (have.now.width ≡ S.width source.old)
+            × (have.now.height ≡ S.height source.old) }
+        requires room { (self.old.cut.width ≡ S.width source.old)
+            × (self.old.cut.height ≡ S.height source.old) }
+        ensures size { (S.width source.new ≡ S.width source.old)
+            × (S.height source.new ≡ S.height source.old) }
+        ensures room { (self.new.cut.width ≡ self.old.cut.width)
+            × (self.new.cut.height ≡ self.old.cut.height) }
         ensures sent { (self.new.piece ≡ []) × (self.new.unsent ≡ []) }
         ensures grows { Begins (S.known source.old) (S.known source.new) }
-        ensures ok { IfOk result (λ n. IsCutOf (S.known source.new) n area.now have.now self.new.cut × (S.answered source.old ≤ n) × (n ≤ S.answered source.new)) }
+        ensures ok { IfOk result (λ n. IsCutOf (S.known source.new) n area.now have.now self.new.cut
+            × (S.answered source.old ≤ n) × (n ≤ S.answered source.new)) }
         ensures cuts { IfOk result (λ n. S.cuts source.old n source.new) }
-        ensures err { IfErr result (λ fault. (fault ≡ Gone) × S.may_end × (source.new ≡ source.old) × (self.new ≡ self.old)) }
+        ensures err { IfErr result (λ fault.
+            (fault ≡ Gone) × S.may_end × (source.new ≡ source.old) × (self.new ≡ self.old)) }
     {
         self.coming = Coming::nothing();
         source.cut(area, have, &mut self.cut)
@@ -144,7 +157,9 @@ impl Outgoing {
         requires size { IfSome size IsSmall }
         requires answer { IfSome answer (IsUpdateOf self.old.cut) }
         ensures cut { self.new.cut ≡ self.old.cut }
-        ensures unsent { self.new.unsent ≡ (if bell then bell_bytes else []) ++ ((if text then text_message self.old.cut.text else []) ++ size_and size (answer_coming true answer self.old.cut)) }
+        ensures unsent { self.new.unsent ≡ (if bell then bell_bytes else [])
+            ++ ((if text then text_message self.old.cut.text else [])
+            ++ size_and size (answer_coming true answer self.old.cut)) }
     {
         self.coming = Coming {
             text,

@@ -31,7 +31,11 @@ impl Model for Piece {
 
     ghost Value = { Waiting };
 
-    ghost view = { λ p. record { room = length p.bytes.items; filled = p.filled; unsent = drop p.sent (take p.filled p.bytes.items) } };
+    ghost view = { λ p. record {
+      room = length p.bytes.items;
+      filled = p.filled;
+      unsent = drop p.sent (take p.filled p.bytes.items);
+    } };
 
     ghost invariant = { λ p. (p.sent ≤ p.filled) × (p.filled ≤ length p.bytes.items) };
 }
@@ -39,7 +43,8 @@ impl Model for Piece {
 impl Piece {
     /// An empty piece with room for this many bytes. It fails where memory is refused (`Memory`).
     pub(crate) fn new(alloc: Global, room: usize) -> Result<Self, Fault>
-        ensures ok { IfOk result (λ piece. (piece.room ≡ room) × (piece.filled ≡ 0) × (piece.unsent ≡ [])) }
+        ensures ok { IfOk result (λ piece.
+            (piece.room ≡ room) × (piece.filled ≡ 0) × (piece.unsent ≡ [])) }
         ensures err { IfErr result (λ fault. fault ≡ Memory) }
     {
         let mut bytes = Vec::new(alloc);
@@ -161,7 +166,8 @@ impl Piece {
         ensures room { self.new.room ≡ self.old.room }
         ensures stands { AnswerStands answer.new cut.now }
         ensures bytes { coming answer.old cut.now ≡ self.new.unsent ++ coming answer.new cut.now }
-        ensures shows { length self.new.unsent ≡ 0 → (coming answer.new cut.now ≡ []) × (self.new.filled ≡ 0) }
+        ensures shows { length self.new.unsent ≡ 0
+            → (coming answer.new cut.now ≡ []) × (self.new.filled ≡ 0) }
     {
         self.sent = 0;
         self.filled = match answer.next(cut, strip, self.bytes.as_mut_slice()) {

@@ -117,7 +117,9 @@ impl Session {
         requires name { (1 ≤ length name.now) × (length name.now ≤ 255) }
         ensures size { IfOk result (λ session. (session.width ≡ w) × (session.height ≡ h)) }
         ensures uncut { IfOk result (λ session. session.asked.last ≡ None) }
-        ensures stands { IfOk result (λ session. (s : Setup) → s.w ≡ w → s.h ≡ h → s.name ≡ name.now → s.runs ≡ form.runs → s.host ≡ host → s.zrle ≡ form.zrle → Stands s session (new_viewer role true)) }
+        ensures stands { IfOk result (λ session. (s : Setup) → s.w ≡ w → s.h ≡ h → s.name ≡ name.now
+            → s.runs ≡ form.runs → s.host ≡ host → s.zrle ≡ form.zrle
+            → Stands s session (new_viewer role true)) }
         ensures err { IfErr result (λ fault. fault ≡ Memory) }
     {
         let mut out = Outgoing::new(alloc, w, h)?;
@@ -140,7 +142,9 @@ impl Session {
         requires { IsScreenSize w h }
         ensures size { IfOk result (λ session. (session.width ≡ w) × (session.height ≡ h)) }
         ensures uncut { IfOk result (λ session. session.asked.last ≡ None) }
-        ensures stands { IfOk result (λ session. (s : Setup) → s.w ≡ w → s.h ≡ h → s.runs ≡ form.runs → s.host ≡ host → s.zrle ≡ form.zrle → Stands s session (new_viewer role false)) }
+        ensures stands { IfOk result (λ session. (s : Setup) → s.w ≡ w → s.h ≡ h
+            → s.runs ≡ form.runs → s.host ≡ host → s.zrle ≡ form.zrle
+            → Stands s session (new_viewer role false)) }
         ensures err { IfErr result (λ fault. fault ≡ Memory) }
     {
         let out = Outgoing::new(alloc, w, h)?;
@@ -163,7 +167,10 @@ impl Session {
         requires greets { IsGreeting hello out }
         ensures size { IfOk result (λ session. (session.width ≡ w) × (session.height ≡ h)) }
         ensures uncut { IfOk result (λ session. session.asked.last ≡ None) }
-        ensures stands { IfOk result (λ session. (s : Setup) (greet : Bool) → s.w ≡ w → s.h ≡ h → s.runs ≡ form.runs → s.host ≡ host → s.zrle ≡ form.zrle → IsBegun s role greet hello out → Stands s session (new_viewer role greet)) }
+        ensures stands { IfOk result (λ session.
+            (s : Setup) (greet : Bool) → s.w ≡ w → s.h ≡ h → s.runs ≡ form.runs
+            → s.host ≡ host → s.zrle ≡ form.zrle → IsBegun s role greet hello out
+            → Stands s session (new_viewer role greet)) }
         ensures err { IfErr result (λ fault. fault ≡ Memory) }
     {
         let have = Have::new(alloc, w, h)?;
@@ -209,8 +216,10 @@ impl Session {
     pub fn sent(&mut self, n: usize)
         requires { n ≤ length self.old.piece }
         ensures same { IsSameSession self.old self.new }
-        ensures unsent { self.new ≡ record self.old { piece = self.new.piece; unsent = drop n self.old.unsent } }
-        ensures stands { (s : Setup) (p : Viewer) → Stands s self.old p → Stands s self.new (after_writing n p) }
+        ensures unsent { self.new
+            ≡ record self.old { piece = self.new.piece; unsent = drop n self.old.unsent } }
+        ensures stands { (s : Setup) (p : Viewer) → Stands s self.old p
+            → Stands s self.new (after_writing n p) }
     {
         self.out.sent(n);
     }
@@ -267,7 +276,8 @@ impl Session {
     pub fn take_input(&mut self) -> Option<Input>
         ensures value { option_map input_in result ≡ self.old.waiting }
         ensures others { self.new ≡ record self.old { waiting = None } }
-        ensures stands { (s : Setup) (p : Viewer) → Stands s self.old p → Stands s self.new (without_input p) }
+        ensures stands { (s : Setup) (p : Viewer) → Stands s self.old p
+            → Stands s self.new (without_input p) }
     {
         self.waiting.take()
     }
@@ -284,7 +294,8 @@ impl Session {
     /// the last position if the last mask wasn't 0. After the last release it answers `None`. An input that waits has
     /// to be taken before. It takes no memory.
     pub fn leave(&mut self) -> Option<Input>
-        ensures next { MatchOption result ((left_in self.old.held ≡ []) × (self.new ≡ self.old)) (λ input. left_in self.old.held ≡ input_in input ∷ left_in self.new.held) }
+        ensures next { MatchOption result ((left_in self.old.held ≡ []) × (self.new ≡ self.old))
+            (λ input. left_in self.old.held ≡ input_in input ∷ left_in self.new.held) }
         ensures others { self.new ≡ record self.old { held = self.new.held } }
         ensures releases { HasReleases self.old }
     {
@@ -325,7 +336,8 @@ impl Session {
 fn say(hello: &mut ViewerHello, out: &mut Outgoing)
     requires room { out.old.filled + length (to_send hello.old) ≤ 65544 }
     requires alone { out.old.unsent ≡ out.old.piece }
-    ensures hello { hello.new ≡ record hello.old { sent = hello.old.sent + length (to_send hello.old) } }
+    ensures hello { hello.new
+        ≡ record hello.old { sent = hello.old.sent + length (to_send hello.old) } }
     ensures cut { out.new.cut ≡ out.old.cut }
     ensures filled { out.new.filled ≡ out.old.filled + length (to_send hello.old) }
     ensures unsent { out.new.unsent ≡ out.old.unsent ++ to_send hello.old }

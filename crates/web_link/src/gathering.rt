@@ -40,13 +40,23 @@ impl<L: Link> Model for GatheringLink<L> {
 
     ghost view = { λ w. record {
       below = L.state w.link;
-      own = record { taken = w.taken.bytes; given = w.given.bytes; failed = w.failures; ended = w.ends };
+      own = record {
+        taken = w.taken.bytes;
+        given = w.given.bytes;
+        failed = w.failures;
+        ended = w.ends;
+      };
       kept = w.kept;
     } };
 
     ghost invariant = { λ w. (w.failures ≤ 2 ^ 62) × (w.ends ≤ 2 ^ 62) × Gathers (record {
       below = L.state w.link;
-      own = record { taken = w.taken.bytes; given = w.given.bytes; failed = w.failures; ended = w.ends };
+      own = record {
+        taken = w.taken.bytes;
+        given = w.given.bytes;
+        failed = w.failures;
+        ended = w.ends;
+      };
       kept = w.kept;
     }) };
 }
@@ -60,7 +70,8 @@ impl<L: Link> GatheringLink<L> {
     pub fn new(alloc: Global, link: L) -> Result<GatheringLink<L>, AllocError>
         requires taken { (L.state link).taken ≡ [] }
         requires given { (L.state link).given ≡ [] }
-        ensures own { IfOk result (λ own. own.own ≡ record { taken = []; given = []; failed = 0; ended = 0 }) }
+        ensures own { IfOk result (λ own.
+            own.own ≡ record { taken = []; given = []; failed = 0; ended = 0 }) }
         ensures below { IfOk result (λ own. own.below ≡ L.state link) }
         ensures kept { IfOk result (λ own. own.kept ≡ []) }
     {

@@ -24,7 +24,9 @@ pub fn refusal_frames(version: &[u8], reason: &[u8]) -> ArrayVec<u8, MOST_REFUSA
     requires version { 1 ≤ length version.now }
     requires reason { 1 ≤ length reason.now }
     requires short { length version.now + length reason.now ≤ 116 }
-    ensures frames { result.items ≡ encode_frame binary_header version.now ++ encode_frame binary_header reason.now ++ encode_frame (control_header Close) (to_be_bytes w16 1013) }
+    ensures frames { result.items
+        ≡ encode_frame binary_header version.now ++ encode_frame binary_header reason.now
+        ++ encode_frame (control_header Close) (to_be_bytes w16 1013) }
     ensures read { Says result.items (version.now ++ reason.now) Closed }
 {
     spell(version, reason)
@@ -33,7 +35,9 @@ pub fn refusal_frames(version: &[u8], reason: &[u8]) -> ArrayVec<u8, MOST_REFUSA
 fn spell(version: &[u8], reason: &[u8]) -> ArrayVec<u8, MOST_REFUSAL>
     requires version { length version.now ≤ 116 }
     requires short { length version.now + length reason.now ≤ 116 }
-    ensures { result.items ≡ encode_frame binary_header version.now ++ encode_frame binary_header reason.now ++ encode_frame (control_header Close) (to_be_bytes w16 1013) }
+    ensures { result.items
+        ≡ encode_frame binary_header version.now ++ encode_frame binary_header reason.now
+        ++ encode_frame (control_header Close) (to_be_bytes w16 1013) }
 {
     let mut frames = ArrayVec::new();
     add_message(&mut frames, version);

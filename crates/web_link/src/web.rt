@@ -45,7 +45,12 @@ impl<L: Link> Model for WebLink<L> {
 
     ghost view = { λ w. record {
       wire = L.state w.link;
-      carried = record { taken = w.taken.bytes; given = w.given.bytes; failed = w.failures; ended = w.ends };
+      carried = record {
+        taken = w.taken.bytes;
+        given = w.given.bytes;
+        failed = w.failures;
+        ended = w.ends;
+      };
       reader = w.reader;
       unsent = w.unsent;
       saying = w.saying;
@@ -53,7 +58,12 @@ impl<L: Link> Model for WebLink<L> {
 
     ghost invariant = { λ w. (w.failures ≤ 2 ^ 62) × (w.ends ≤ 2 ^ 62) × Carries (record {
       wire = L.state w.link;
-      carried = record { taken = w.taken.bytes; given = w.given.bytes; failed = w.failures; ended = w.ends };
+      carried = record {
+        taken = w.taken.bytes;
+        given = w.given.bytes;
+        failed = w.failures;
+        ended = w.ends;
+      };
       reader = w.reader;
       unsent = w.unsent;
       saying = w.saying;
@@ -70,7 +80,8 @@ impl<L: Link> WebLink<L> {
     pub fn new(link: L) -> WebLink<L>
         requires taken { (L.state link).taken ≡ [] }
         requires given { (L.state link).given ≡ [] }
-        ensures carried { result.carried ≡ record { taken = []; given = []; failed = 0; ended = 0 } }
+        ensures carried { result.carried
+            ≡ record { taken = []; given = []; failed = 0; ended = 0 } }
         ensures below { result.wire ≡ L.state link }
         ensures unsent { result.unsent ≡ [] }
     {
@@ -99,8 +110,10 @@ impl<L: Link> WebLink<L> {
     pub fn into_below(self) -> Option<L>
         ensures below { IfSome result (λ link. L.state link ≡ self.wire) }
         ensures rests { IfSome result (λ _. IsAtRest self) }
-        ensures taken { IfSome result (λ link. data_in (fresh true) (L.state link).taken ≡ self.carried.taken) }
-        ensures given { IfSome result (λ link. data_in (fresh false) (L.state link).given ≡ self.carried.given) }
+        ensures taken { IfSome result (λ link.
+            data_in (fresh true) (L.state link).taken ≡ self.carried.taken) }
+        ensures given { IfSome result (λ link.
+            data_in (fresh false) (L.state link).given ≡ self.carried.given) }
     {
         if self.saying == Saying::Between && self.unsent.is_empty() && self.reader.is_between() {
             Some(self.link)
@@ -135,7 +148,8 @@ impl<L: Link> WebLink<L> {
         ensures same { self.new.carried ≡ self.old.carried }
         ensures saying { self.new.saying ≡ self.old.saying }
         ensures reader { self.new.reader ≡ self.old.reader }
-        ensures said { self.new.wire.given ++ self.new.unsent ≡ self.old.wire.given ++ self.old.unsent }
+        ensures said { self.new.wire.given ++ self.new.unsent
+            ≡ self.old.wire.given ++ self.old.unsent }
         ensures all { result ≡ Went.All → self.new.unsent ≡ [] }
     {
         while !self.unsent.is_empty() {
@@ -297,8 +311,10 @@ impl<L: Link> Link for WebLink<L> {
     fn take(&mut self, into: &mut [u8]) -> Took
         requires { 0 < length into.old }
         ensures takes { TakesAs result self.old.carried self.new.carried into.new }
-        ensures refused { (why : Breach) → self.old.reader.position ≡ Broken why → (result ≡ Took.Failed) × SaysClose (close_code why) self.old self.new }
-        ensures closed { self.old.reader.position ≡ Ended → (result ≡ Took.End) × SaysClose 1000 self.old self.new }
+        ensures refused { (why : Breach) → self.old.reader.position ≡ Broken why
+            → (result ≡ Took.Failed) × SaysClose (close_code why) self.old self.new }
+        ensures closed { self.old.reader.position ≡ Ended
+            → (result ≡ Took.End) × SaysClose 1000 self.old self.new }
     {
         match self.reader.position() {
             Position::Ended => {

@@ -50,7 +50,8 @@ impl Walk {
     fn read<D: Disk>(&mut self, alloc: Global, disk: &D, path: String) -> Result<(), RootFault>
         requires regular { (size : ℕ) × D.has disk.now (string_bytes path) (File size) }
         requires files { All (IsFileOf (D.has disk.now) (D.gave disk.now)) self.old.table }
-        ensures files { OnOk result (All (IsFileOf (D.has disk.now) (D.gave disk.now)) self.new.table) }
+        ensures files { OnOk result
+            (All (IsFileOf (D.has disk.now) (D.gave disk.now)) self.new.table) }
     {
         let body = disk.read(alloc, path.as_str(), MOST_BYTES as u64 + 1)?;
         Ok(self.table.add(path, Bytes::from_vec(body)?)?)
@@ -65,7 +66,8 @@ impl Walk {
         name: &str,
     ) -> Result<(), RootFault>
         requires files { All (IsFileOf (D.has disk.now) (D.gave disk.now)) self.old.table }
-        ensures files { OnOk result (All (IsFileOf (D.has disk.now) (D.gave disk.now)) self.new.table) }
+        ensures files { OnOk result
+            (All (IsFileOf (D.has disk.now) (D.gave disk.now)) self.new.table) }
     {
         let path = path_in(alloc, folder, name)?;
         let found = disk.look(path.as_str())?;
@@ -79,7 +81,8 @@ impl Walk {
     /// Looks at all that a folder has.
     fn enter<D: Disk>(&mut self, alloc: Global, disk: &D, folder: &str) -> Result<(), RootFault>
         requires files { All (IsFileOf (D.has disk.now) (D.gave disk.now)) self.old.table }
-        ensures files { OnOk result (All (IsFileOf (D.has disk.now) (D.gave disk.now)) self.new.table) }
+        ensures files { OnOk result
+            (All (IsFileOf (D.has disk.now) (D.gave disk.now)) self.new.table) }
     {
         let names = disk.names(alloc, folder)?;
         if names.len() > MOST_NAMES {
@@ -94,7 +97,8 @@ impl Walk {
     /// Enters one more folder. It answers false where none is left.
     fn go_on<D: Disk>(&mut self, alloc: Global, disk: &D) -> Result<bool, RootFault>
         requires files { All (IsFileOf (D.has disk.now) (D.gave disk.now)) self.old.table }
-        ensures files { OnOk result (All (IsFileOf (D.has disk.now) (D.gave disk.now)) self.new.table) }
+        ensures files { OnOk result
+            (All (IsFileOf (D.has disk.now) (D.gave disk.now)) self.new.table) }
     {
         let Some(folder) = self.folders.pop() else {
             return Ok(false);

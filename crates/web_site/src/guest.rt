@@ -31,7 +31,11 @@ impl Model for Guest {
 
     ghost Value = { Asking };
 
-    ghost view = { λ g. record { site = arc_value g.site; config = config_of g.connection; history = history g.connection } };
+    ghost view = { λ g. record {
+      site = arc_value g.site;
+      config = config_of g.connection;
+      history = history g.connection;
+    } };
 
     ghost invariant = { λ g. ∥ IsTold (arc_value g.site) (history g.connection).calls ∥₁ };
 }

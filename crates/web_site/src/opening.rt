@@ -18,8 +18,10 @@ use websocket::handshake::server::accept_key;
 /// nothing else is looked at.
 pub fn check_opening(admission: &Admission, request: &Request<Bytes>) -> Result<[u8; 28], Objection>
     ensures opens { IsOk result ↔ Opens admission.now (head_of request.now) }
-    ensures accepts { IfOk result (λ accept. option_map accept_key_of (key_in (head_of request.now).headers) ≡ Some accept) }
-    ensures stranger { (result ≡ Err Objection.Stranger) ↔ (may_open admission.now (head_of request.now).headers ≡ false) }
+    ensures accepts { IfOk result (λ accept.
+        option_map accept_key_of (key_in (head_of request.now).headers) ≡ Some accept) }
+    ensures stranger { (result ≡ Err Objection.Stranger)
+        ↔ (may_open admission.now (head_of request.now).headers ≡ false) }
 {
     if !admission.may_open(request.headers()) {
         return Err(Objection::Stranger);

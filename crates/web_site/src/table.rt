@@ -60,7 +60,8 @@ impl Model for FileTable {
 
     ghost view = { λ t. t.files.items };
 
-    ghost invariant = { λ t. (t.size ≡ total t.files.items) × (length t.files.items ≤ 2000) × (t.size ≤ 16777216) };
+    ghost invariant = { λ t. (t.size ≡ total t.files.items) × (length t.files.items ≤ 2000)
+        × (t.size ≤ 16777216) };
 }
 
 impl FileTable {
@@ -114,8 +115,11 @@ impl FileTable {
     pub fn add(&mut self, path: String, body: Bytes) -> Result<(), TableFault>
         ensures added { OnOk result (IsAdded self.old self.new path body) }
         ensures kept { OnErr result (self.new ≡ self.old) }
-        ensures why { IfErr result (λ fault. (refusal self.old (kind_by_name (string_bytes path)) (length body) ≡ Some fault) ⊎ (fault ≡ Memory)) }
-        ensures refused { OnOk result (refusal self.old (kind_by_name (string_bytes path)) (length body) ≡ None) }
+        ensures why { IfErr result (λ fault.
+            (refusal self.old (kind_by_name (string_bytes path)) (length body) ≡ Some fault)
+            ⊎ (fault ≡ Memory)) }
+        ensures refused { OnOk result
+            (refusal self.old (kind_by_name (string_bytes path)) (length body) ≡ None) }
     {
         let Some(kind) = Kind::of(path.as_str()) else {
             return Err(TableFault::OtherEnding);

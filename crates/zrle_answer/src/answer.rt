@@ -84,7 +84,9 @@ fn append_all(
     out: &mut Vec<u8>,
 ) -> Result<bool, Unwritten>
     requires { All (IsPart cut.now.width cut.now.height) (areas_of plan.now) }
-    ensures ok { IfOk result (λ now. AppendsAll (style_in style.now) (shown cut.now) (style.now.choice.copy && cut.now.all_were_sent) None (areas_of plan.now) begun now out.old.items out.new.items) }
+    ensures ok { IfOk result (λ now. AppendsAll (style_in style.now) (shown cut.now)
+        (style.now.choice.copy && cut.now.all_were_sent) None (areas_of plan.now) begun now
+        out.old.items out.new.items) }
     ensures within { OnOk result (length out.new.items ≤ limit) }
     ensures err { IfErr result (λ why. IsWhy why limit out.new.items) }
 {
@@ -131,7 +133,8 @@ impl AnswerWriter {
         out: &mut Vec<u8>,
     ) -> Result<bool, Unwritten>
         requires { IsWithin area.now cut.now.width cut.now.height }
-        ensures ok { IfOk result (λ now. IsWholeOf (style_in style.now) cut.now area.now begun now out.new.items) }
+        ensures ok { IfOk result (λ now.
+            IsWholeOf (style_in style.now) cut.now area.now begun now out.new.items) }
         ensures within { OnOk result (length out.new.items ≤ limit) }
         ensures err { IfErr result (λ why. IsWhy why limit out.new.items) }
     {

@@ -30,7 +30,8 @@ fn append_plain(
     requires before { LiesOn cut.now.width cut.now.height before }
     requires within { IsWithin area.now cut.now.width cut.now.height }
     requires some { 1 ≤ area.now.w * area.now.h }
-    ensures ok { OnOk result (out.new.items ≡ out.old.items ++ spelled (style_in style.now) (shown cut.now) may_copy before area.now) }
+    ensures ok { OnOk result (out.new.items
+        ≡ out.old.items ++ spelled (style_in style.now) (shown cut.now) may_copy before area.now) }
 {
     let positions = (area.w * area.h) as usize;
     if values.len() < positions {
@@ -90,7 +91,8 @@ impl OneWriter {
         out: &mut Vec<u8>,
     ) -> Result<(), AllocError>
         requires within { IsWithin area.now cut.now.width cut.now.height }
-        ensures ok { OnOk result (AppendsRectangle style.now.format (shown cut.now) area.now begun out.old.items out.new.items) }
+        ensures ok { OnOk result (AppendsRectangle style.now.format (shown cut.now) area.now begun
+            out.old.items out.new.items) }
     {
         let pixels = Cpixels::new(&style.format);
         let (width, height) = (cut.width as usize, cut.height as usize);
@@ -114,7 +116,8 @@ impl OneWriter {
         requires before { LiesOn cut.now.width cut.now.height before }
         requires within { IsWithin planned.now.area cut.now.width cut.now.height }
         requires some { 1 ≤ planned.now.area.w * planned.now.area.h }
-        ensures ok { IfOk result (λ now. AppendsNext (style_in style.now) (shown cut.now) may_copy before planned.now.area begun now out.old.items out.new.items) }
+        ensures ok { IfOk result (λ now. AppendsNext (style_in style.now) (shown cut.now) may_copy
+            before planned.now.area begun now out.old.items out.new.items) }
     {
         let area = &planned.area;
         let start = out.len();

@@ -50,7 +50,8 @@ fn goes_on(above: &Planned, run: &Rect) -> bool
 fn find_above(plan: &[Planned], run: &Rect) -> Option<usize>
     requires plan { All (λ p. IsWithin p.area 4096 4096) plan.now }
     requires run { IsWithin run.now 4096 4096 }
-    ensures { IfSome result (λ k. (k < length plan.now) × ((d : Planned) → GoesOn (slice_index_or plan.now k d).area run.now)) }
+    ensures { IfSome result (λ k. (k < length plan.now)
+        × ((d : Planned) → GoesOn (slice_index_or plan.now k d).area run.now)) }
 {
     for at in (plan.len().saturating_sub(LOOKED_AT)..plan.len()).rev() {
         if goes_on(&plan[at], run) {
@@ -118,7 +119,8 @@ pub(crate) fn plan_rectangles(
 ) -> Result<(), AllocError>
     requires within { IsWithin area.now cut.now.width cut.now.height }
     requires empty { plan.old.items ≡ [] }
-    ensures ok { OnOk result (BringTheDue cut.now.width cut.now.height area.now (marked cut.now) (areas_of plan.new.items)) }
+    ensures ok { OnOk result (BringTheDue cut.now.width cut.now.height area.now (marked cut.now)
+        (areas_of plan.new.items)) }
 {
     let mut walk = Walk::new(area, cut.width, cut.height);
     while let Some(run) = walk.next(cut) {

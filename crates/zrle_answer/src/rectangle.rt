@@ -46,7 +46,8 @@ pub fn append_part(
 ) -> Result<(), AllocError>
     requires within { IsWithin area.now 4096 4096 }
     requires few { length part.now ≤ 2 ^ 27 }
-    ensures ok { OnOk result (out.new.items ≡ out.old.items ++ zrle_rectangle_bytes area.now (head_unless begun ++ part.now)) }
+    ensures ok { OnOk result (out.new.items
+        ≡ out.old.items ++ zrle_rectangle_bytes area.now (head_unless begun ++ part.now)) }
     ensures err { OnErr result (out.new.items ≡ out.old.items) }
 {
     let first = head_unless(begun);
@@ -90,7 +91,9 @@ impl RectangleWriter {
         requires size { length colours.now ≡ width * height }
         requires small { (width ≤ 4096) × (height ≤ 4096) }
         requires within { IsWithin area.now width height }
-        ensures ok { IsAccepted pixels.now.format → OnOk result (AppendsRectangle pixels.now.format (value_at width colours.now) area.now begun out.old.items out.new.items) }
+        ensures ok { IsAccepted pixels.now.format
+            → OnOk result (AppendsRectangle pixels.now.format (value_at width colours.now) area.now
+            begun out.old.items out.new.items) }
         ensures err { OnErr result (out.new.items ≡ out.old.items) }
     {
         areas_show_their_colours();

@@ -116,7 +116,8 @@ impl Cpixels {
     #[inline(always)]
     #[tactic(auto, using(crate::proofs::Growing::begins_if, crate::proofs::Growing::begins_more, crate::proofs::Growing::begins_unchanged))]
     pub fn append(&self, value: u32, out: &mut Vec<u8>) -> Result<(), AllocError>
-        ensures ok { OnOk result (out.new.items ≡ out.old.items ++ cpixel_bytes self.now.format value) }
+        ensures ok { OnOk result
+            (out.new.items ≡ out.old.items ++ cpixel_bytes self.now.format value) }
         ensures begins { BeginsWith out.old.items out.new.items }
     {
         let mut bytes = [0; 4];

@@ -30,7 +30,10 @@ fn append_tile(
     requires high { (1 ≤ place.now.h) × (place.now.h ≤ 64) }
     requires room { length room.old ≡ POSITIONS }
     ensures room { length room.new ≡ POSITIONS }
-    ensures ok { OnOk result (AppendsTile pixels.now.format place.now.w place.now.h (map (tint pixels.now.format) (values_of place.now.w place.now.h (part_of place.now (value_at width colours.now)))) out.old.items out.new.items) }
+    ensures ok { OnOk result (AppendsTile pixels.now.format place.now.w place.now.h
+        (map (tint pixels.now.format)
+        (values_of place.now.w place.now.h (part_of place.now (value_at width colours.now))))
+        out.old.items out.new.items) }
 {
     let across = place.w as usize;
     let down = place.h as usize;
@@ -56,7 +59,9 @@ fn append_tiles(
     requires room { length room.old ≡ POSITIONS }
     requires empty { out.old.items ≡ [] }
     ensures room { length room.new ≡ POSITIONS }
-    ensures ok { OnOk result (SpellsTiles pixels.now.format area.now.w area.now.h (area_values pixels.now.format width colours.now area.now) (zrle_tile_count area.now.w area.now.h) out.new.items) }
+    ensures ok { OnOk result (SpellsTiles pixels.now.format area.now.w area.now.h
+        (area_values pixels.now.format width colours.now area.now)
+        (zrle_tile_count area.now.w area.now.h) out.new.items) }
     ensures few { OnOk result (length out.new.items ≤ 16385 * 4096) }
 {
     for t in 0..zrle_tile_count(area.w, area.h) {
@@ -107,7 +112,9 @@ impl Encoder {
         requires size { length colours.now ≡ width * height }
         requires small { (width ≤ 4096) × (height ≤ 4096) }
         requires within { IsWithin area.now width height }
-        ensures ok { OnOk result (AppendsZrle pixels.now.format area.now.w area.now.h (area_values pixels.now.format width colours.now area.now) out.old.items out.new.items) }
+        ensures ok { OnOk result (AppendsZrle pixels.now.format area.now.w area.now.h
+            (area_values pixels.now.format width colours.now area.now)
+            out.old.items out.new.items) }
         ensures few { OnOk result (length out.new.items ≤ length out.old.items + 2 ^ 27) }
         ensures err { OnErr result (out.new.items ≡ out.old.items) }
     {

@@ -15,7 +15,8 @@ use std::alloc::AllocError;
 fn index_at(row: &[u8], k: usize) -> u32
     ensures value { result ≡ slice_index row.now k }
     ensures byte { result < 256 }
-    ensures small { (limit : ℕ) → 0 < limit → EachIndex row.now (λ i. slice_index row.now i < limit) → result < limit }
+    ensures small { (limit : ℕ) → 0 < limit → EachIndex row.now (λ i. slice_index row.now i < limit)
+        → result < limit }
 {
     if k < row.len() { u32::from(row[k]) } else { 0 }
 }
@@ -162,7 +163,9 @@ pub fn append_packed(
     requires high { h ≤ 64 }
     requires count { length indices.now ≡ w * h }
     requires short { length indices.now ≤ 4096 }
-    ensures ok { OnOk result (out.new.items ≡ out.old.items ++ length palette.now ∷ (flat_map (cpixel_bytes pixels.now.format) palette.now ++ packed_rows (index_bits (length palette.now)) w h indices.now)) }
+    ensures ok { OnOk result (out.new.items ≡ out.old.items
+        ++ length palette.now ∷ (flat_map (cpixel_bytes pixels.now.format) palette.now
+        ++ packed_rows (index_bits (length palette.now)) w h indices.now)) }
     ensures begins { BeginsWith out.old.items out.new.items }
 {
     append_byte(palette.len() as u8, out)?;

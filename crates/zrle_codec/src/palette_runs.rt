@@ -17,7 +17,8 @@ fn index_run_len(indices: &[u8], from: usize) -> usize
     requires { from < length indices.now }
     ensures some { 1 ≤ result }
     ensures inside { from + result ≤ length indices.now }
-    ensures same { take result (drop from indices.now) ≡ replicate result (slice_index indices.now from) }
+    ensures same { take result (drop from indices.now)
+        ≡ replicate result (slice_index indices.now from) }
 {
     let first = indices[from];
     let mut end = from + 1;
@@ -32,7 +33,8 @@ fn index_run_len(indices: &[u8], from: usize) -> usize
 fn append_index_run(index: u8, len: usize, out: &mut Vec<u8>) -> Result<(), AllocError>
     requires known { index < 128 }
     requires some { 1 ≤ len }
-    ensures ok { OnOk result (out.new.items ≡ out.old.items ++ index_run_bytes (record { value = index; len = len })) }
+    ensures ok { OnOk result
+        (out.new.items ≡ out.old.items ++ index_run_bytes (record { value = index; len = len })) }
     ensures begins { BeginsWith out.old.items out.new.items }
 {
     if len == 1 {
@@ -70,7 +72,9 @@ pub fn append_palette_runs(
 ) -> Result<(), AllocError>
     requires palette { length palette.now ≤ 127 }
     requires each { EachIndex indices.now (λ k. slice_index indices.now k < length palette.now) }
-    ensures ok { OnOk result (AppendsRuns index_run_bytes (out.old.items ++ (length palette.now + 128) ∷ flat_map (cpixel_bytes pixels.now.format) palette.now) out.new.items indices.now) }
+    ensures ok { OnOk result (AppendsRuns index_run_bytes (out.old.items
+        ++ (length palette.now + 128) ∷ flat_map (cpixel_bytes pixels.now.format) palette.now)
+        out.new.items indices.now) }
     ensures begins { BeginsWith out.old.items out.new.items }
 {
     append_byte(palette.len() as u8 + 128, out)?;

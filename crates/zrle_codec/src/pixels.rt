@@ -22,7 +22,8 @@ pub fn append_byte(byte: u8, out: &mut Vec<u8>) -> Result<(), AllocError>
 /// Appends the CPIXEL of each value.
 #[tactic(auto, using(crate::proofs::Growing::begins_then, crate::proofs::Growing::begins_more))]
 pub fn append_pixels(pixels: &Cpixels, values: &[u32], out: &mut Vec<u8>) -> Result<(), AllocError>
-    ensures ok { OnOk result (out.new.items ≡ out.old.items ++ flat_map (cpixel_bytes pixels.now.format) values.now) }
+    ensures ok { OnOk result
+        (out.new.items ≡ out.old.items ++ flat_map (cpixel_bytes pixels.now.format) values.now) }
     ensures begins { BeginsWith out.old.items out.new.items }
 {
     for value in values {
@@ -34,7 +35,8 @@ pub fn append_pixels(pixels: &Cpixels, values: &[u32], out: &mut Vec<u8>) -> Res
 /// Appends a tile in the form Raw.
 #[tactic(auto, using(crate::proofs::Growing::begins_then, crate::proofs::Growing::begins_more))]
 pub fn append_raw(pixels: &Cpixels, values: &[u32], out: &mut Vec<u8>) -> Result<(), AllocError>
-    ensures ok { OnOk result (out.new.items ≡ out.old.items ++ 0 ∷ flat_map (cpixel_bytes pixels.now.format) values.now) }
+    ensures ok { OnOk result (out.new.items
+        ≡ out.old.items ++ 0 ∷ flat_map (cpixel_bytes pixels.now.format) values.now) }
     ensures begins { BeginsWith out.old.items out.new.items }
 {
     append_byte(0, out)?;
@@ -45,7 +47,8 @@ pub fn append_raw(pixels: &Cpixels, values: &[u32], out: &mut Vec<u8>) -> Result
 /// Appends a tile in the form Solid.
 #[tactic(auto, using(crate::proofs::Growing::begins_then, crate::proofs::Growing::begins_more))]
 pub fn append_solid(pixels: &Cpixels, value: u32, out: &mut Vec<u8>) -> Result<(), AllocError>
-    ensures ok { OnOk result (out.new.items ≡ out.old.items ++ 1 ∷ cpixel_bytes pixels.now.format value) }
+    ensures ok { OnOk result
+        (out.new.items ≡ out.old.items ++ 1 ∷ cpixel_bytes pixels.now.format value) }
     ensures begins { BeginsWith out.old.items out.new.items }
 {
     append_byte(1, out)?;

@@ -14,7 +14,8 @@ pub fn run_len(values: &[u32], from: usize) -> usize
     requires { from < length values.now }
     ensures some { 1 ≤ result }
     ensures inside { from + result ≤ length values.now }
-    ensures same { take result (drop from values.now) ≡ replicate result (slice_index values.now from) }
+    ensures same { take result (drop from values.now)
+        ≡ replicate result (slice_index values.now from) }
 {
     let first = values[from];
     let mut end = from + 1;
@@ -27,7 +28,8 @@ pub fn run_len(values: &[u32], from: usize) -> usize
 /// Whether all values are equal.
 pub fn is_solid(values: &[u32]) -> bool
     requires { 0 < length values.now }
-    ensures { result ≡ true → values.now ≡ replicate (length values.now) (slice_index values.now 0) }
+    ensures { result ≡ true
+        → values.now ≡ replicate (length values.now) (slice_index values.now 0) }
 {
     run_len(values, 0) == values.len()
 }
@@ -55,7 +57,8 @@ pub fn append_plain_runs(
     values: &[u32],
     out: &mut Vec<u8>,
 ) -> Result<(), AllocError>
-    ensures ok { OnOk result (AppendsRuns (plain_run_bytes pixels.now.format) out.old.items out.new.items values.now) }
+    ensures ok { OnOk result
+        (AppendsRuns (plain_run_bytes pixels.now.format) out.old.items out.new.items values.now) }
     ensures begins { BeginsWith out.old.items out.new.items }
 {
     let mut from = 0;

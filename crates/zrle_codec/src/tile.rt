@@ -25,7 +25,8 @@ fn append_runs_tile(
     out: &mut Vec<u8>,
 ) -> Result<(), AllocError>
     requires count { length values.now ≡ w * h }
-    ensures ok { OnOk result (AppendsSome pixels.now.format w h values.now out.old.items out.new.items) }
+    ensures ok { OnOk result
+        (AppendsSome pixels.now.format w h values.now out.old.items out.new.items) }
     ensures begins { BeginsWith out.old.items out.new.items }
 {
     append_byte(128, out)?;
@@ -71,7 +72,8 @@ fn append_chosen(
     requires high { h ≤ 64 }
     requires count { length values.now ≡ w * h }
     requires short { length values.now ≤ 4096 }
-    ensures ok { OnOk result (AppendsSome pixels.now.format w h values.now out.old.items out.new.items) }
+    ensures ok { OnOk result
+        (AppendsSome pixels.now.format w h values.now out.old.items out.new.items) }
     ensures begins { BeginsWith out.old.items out.new.items }
 {
     let mut palette = [0; MOST_COLOURS];
@@ -108,7 +110,8 @@ pub fn write_tile(
     requires count { length values.now ≡ w * h }
     requires some { 1 ≤ length values.now }
     requires short { length values.now ≤ 4096 }
-    ensures ok { OnOk result (AppendsTile pixels.now.format w h values.now out.old.items out.new.items) }
+    ensures ok { OnOk result
+        (AppendsTile pixels.now.format w h values.now out.old.items out.new.items) }
     ensures begins { BeginsWith out.old.items out.new.items }
 {
     if is_solid(values) {

@@ -76,7 +76,8 @@ struct Source {
 fn make_source(alloc: Global, width: u64, height: u64, colours: &[u32]) -> Result<Source, Fault>
     requires size { IsScreenSize width height }
     requires count { length colours.now ≡ width * height }
-    ensures { IfOk result (λ source. (source.board.width ≡ width) × (source.board.height ≡ height)) }
+    ensures { IfOk result (λ source.
+        (source.board.width ≡ width) × (source.board.height ≡ height)) }
 {
     let mut painter = Painter::new(alloc, width, height)?;
     let all = Rect {
@@ -97,7 +98,8 @@ fn make_source(alloc: Global, width: u64, height: u64, colours: &[u32]) -> Resul
 
 /// Copies the source's colours into a cut, and marks all tiles as due, or the middle one alone.
 fn refresh(cut: &mut Cut, source: &Source, all: bool)
-    requires { (source.now.board.width ≡ cut.old.width) × (source.now.board.height ≡ cut.old.height) }
+    requires { (source.now.board.width ≡ cut.old.width)
+        × (source.now.board.height ≡ cut.old.height) }
     ensures { (cut.new.width ≡ cut.old.width) × (cut.new.height ≡ cut.old.height) }
 {
     let area = Rect {
@@ -112,7 +114,8 @@ fn refresh(cut: &mut Cut, source: &Source, all: bool)
 
 /// The same, where the colours are copied anew.
 fn refresh_if(copies: bool, cut: &mut Cut, source: &Source, all: bool)
-    requires { (source.now.board.width ≡ cut.old.width) × (source.now.board.height ≡ cut.old.height) }
+    requires { (source.now.board.width ≡ cut.old.width)
+        × (source.now.board.height ≡ cut.old.height) }
     ensures { (cut.new.width ≡ cut.old.width) × (cut.new.height ≡ cut.old.height) }
 {
     if copies {
@@ -123,7 +126,8 @@ fn refresh_if(copies: bool, cut: &mut Cut, source: &Source, all: bool)
 /// Room for a cut, and for a rectangle.
 fn prepare(alloc: Global, width: u64, height: u64) -> Result<(Cut, Room), Fault>
     requires { IsScreenSize width height }
-    ensures { IfOk result (λ p. (p.0.width ≡ width) × (p.0.height ≡ height) × (length p.1.values.items ≡ 16 * width) × (length p.1.out.items ≡ 12 + 64 * width)) }
+    ensures { IfOk result (λ p. (p.0.width ≡ width) × (p.0.height ≡ height)
+        × (length p.1.values.items ≡ 16 * width) × (length p.1.out.items ≡ 12 + 64 * width)) }
 {
     let cut = Cut::new(alloc, width, height)?;
     let values = vec![in alloc; 0u32; 16 * width as usize]?;

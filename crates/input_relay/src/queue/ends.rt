@@ -31,8 +31,10 @@ impl<R: Wait + Drop> Sender<R> {
     /// wait where another thread stands still inside a call.
     pub fn send(&mut self, input: Input) -> Result<(), (Fault, Input)>
         ensures ok { OnOk result (sent_of self.new ≡ sent_of self.old ++ input ∷ []) }
-        ensures err { IfErr result (λ refused. (sent_of self.new ≡ sent_of self.old) × (refused.1 ≡ input) × IsRefusal refused.0 (length (sent_of self.old))) }
-        ensures same { (place_of self.new ≡ place_of self.old) × (relay_of self.new ≡ relay_of self.old) }
+        ensures err { IfErr result (λ refused. (sent_of self.new ≡ sent_of self.old)
+            × (refused.1 ≡ input) × IsRefusal refused.0 (length (sent_of self.old))) }
+        ensures same { (place_of self.new ≡ place_of self.old)
+            × (relay_of self.new ≡ relay_of self.old) }
     {
         if self.count >= MOST {
             return Err((Fault::NumbersOut, input));
@@ -61,7 +63,8 @@ impl<R: Wait + Drop> Taker<R> {
     /// The input that has waited longest, with the number of its place; `None` where none waits. The inputs of one
     /// place come in the order in which it sent them.
     pub fn take(&mut self) -> Option<(u64, Input)>
-        ensures some { IfSome result (λ r. taken_of self.new ≡ taken_of self.old ++ message r.0 r.1 ∷ []) }
+        ensures some { IfSome result (λ r.
+            taken_of self.new ≡ taken_of self.old ++ message r.0 r.1 ∷ []) }
         ensures none { IfNone result (taken_of self.new ≡ taken_of self.old) }
         ensures same { host_of self.new ≡ host_of self.old }
     {
@@ -102,9 +105,12 @@ impl<R: Wait + Drop> Settled<R> {
     /// The next input that is left, with the number of its place. It is `None` only once every input that was sent has
     /// been taken.
     pub fn next(&mut self) -> Option<(u64, Input)>
-        ensures some { IfSome result (λ r. taken_at_end self.new ≡ taken_at_end self.old ++ message r.0 r.1 ∷ []) }
-        ensures none { IfNone result ((taken_at_end self.new ≡ taken_at_end self.old) × Accounted (known_at_end self.old) (taken_at_end self.old)) }
-        ensures same { (known_at_end self.new ≡ known_at_end self.old) × (relay_at_end self.new ≡ relay_at_end self.old) }
+        ensures some { IfSome result (λ r.
+            taken_at_end self.new ≡ taken_at_end self.old ++ message r.0 r.1 ∷ []) }
+        ensures none { IfNone result ((taken_at_end self.new ≡ taken_at_end self.old)
+            × Accounted (known_at_end self.old) (taken_at_end self.old)) }
+        ensures same { (known_at_end self.new ≡ known_at_end self.old)
+            × (relay_at_end self.new ≡ relay_at_end self.old) }
     {
         match self.line.pop_as::<Taken, R>(&self.rt, &mut self.pass) {
             Some(message) => {
@@ -174,7 +180,8 @@ pub fn settle<R: Wait + Drop>(senders: Vec<Sender<R>>, taker: Taker<R>) -> Settl
     requires { All (λ s. relay_of s ≡ host_of taker) senders.items }
     ensures taken { taken_at_end result ≡ taken_of taker }
     ensures known { known_at_end result ≡ map strand_of senders.items }
-    ensures all { (left : List Message) × Accounted (known_at_end result) (taken_at_end result ++ left) }
+    ensures all { (left : List Message)
+        × Accounted (known_at_end result) (taken_at_end result ++ left) }
 {
     let Taker { line, mut pass, rt } = taker;
     for sender in senders {

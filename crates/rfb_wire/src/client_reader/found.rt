@@ -32,7 +32,8 @@ impl Found {
 
     /// What is found with one more number. Only the first encoding of pixels counts.
     pub(crate) fn note(self, number: u32) -> Found
-        ensures { (others : List ℕ) → choice_with result others ≡ choice_with self (number ∷ others) }
+        ensures { (others : List ℕ)
+            → choice_with result others ≡ choice_with self (number ∷ others) }
     {
         let kind = Encoding::of_number(number);
         Found {

@@ -35,7 +35,8 @@ pub(crate) enum State {
 /// how many bytes were taken.
 fn take_fields(alloc: Global, fields: &mut Fields<Part>, piece: &[u8]) -> (Option<State>, usize)
     requires { 0 < length piece.now }
-    ensures { UsesOrLoses (ahead (state.Fields fields.old)) (ahead (unwrap_or result.0 (state.Fields fields.new))) piece.now result.1 }
+    ensures { UsesOrLoses (ahead (state.Fields fields.old))
+        (ahead (unwrap_or result.0 (state.Fields fields.new))) piece.now result.1 }
 {
     let part = fields.part();
     let count = piece.len().min(fields.left());
@@ -52,7 +53,8 @@ fn take_fields(alloc: Global, fields: &mut Fields<Part>, piece: &[u8]) -> (Optio
 /// and how many bytes were taken. Where memory for the text is refused, the text is read past from now on.
 fn take_text(alloc: Global, kept: &mut KeptText, piece: &[u8]) -> (Option<State>, usize)
     requires { 0 < length piece.now }
-    ensures { UsesOrLoses (ahead (state.Keeping kept.old)) (ahead (unwrap_or result.0 (state.Keeping kept.new))) piece.now result.1 }
+    ensures { UsesOrLoses (ahead (state.Keeping kept.old))
+        (ahead (unwrap_or result.0 (state.Keeping kept.new))) piece.now result.1 }
 {
     let len = kept.len() as u32;
     let count = piece.len().min(kept.left());
@@ -75,7 +77,8 @@ fn take_text(alloc: Global, kept: &mut KeptText, piece: &[u8]) -> (Option<State>
 /// there, and how many bytes were taken.
 fn skip(len: u32, bytes: &mut SkippedBytes, piece: &[u8]) -> (Option<State>, usize)
     requires { 0 < length piece.now }
-    ensures { UsesOrLoses (ahead (state.Passing len bytes.old)) (ahead (unwrap_or result.0 (state.Passing len bytes.new))) piece.now result.1 }
+    ensures { UsesOrLoses (ahead (state.Passing len bytes.old))
+        (ahead (unwrap_or result.0 (state.Passing len bytes.new))) piece.now result.1 }
 {
     let count = piece.len().min(bytes.left());
     if count < bytes.left() {
@@ -163,7 +166,8 @@ impl State {
 
     /// What is answered once this many bytes were used.
     fn so_far(&self, used: usize) -> Result<usize, Fault>
-        ensures { MatchResult result (λ n. (n ≡ used) × (fault_of (ahead self.now) ≡ None)) (λ fault. fault_of (ahead self.now) ≡ Some fault) }
+        ensures { MatchResult result (λ n. (n ≡ used) × (fault_of (ahead self.now) ≡ None))
+            (λ fault. fault_of (ahead self.now) ≡ Some fault) }
     {
         match self.fault() {
             Some(fault) => Err(fault),

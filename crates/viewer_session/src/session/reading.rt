@@ -40,8 +40,13 @@ impl Session {
     fn greet(&mut self, byte: u8)
         requires wants { wants_more (hello_of self.old.greeting) ≡ true }
         requires none { self.old.waiting ≡ None }
-        ensures others { self.new ≡ record self.old { greeting = self.new.greeting; piece = self.new.piece; unsent = self.new.unsent } }
-        ensures stands { (s : Setup) (p : Viewer) → Stands s self.old p → Stands s self.new (after_byte p byte) }
+        ensures others { self.new ≡ record self.old {
+          greeting = self.new.greeting;
+          piece = self.new.piece;
+          unsent = self.new.unsent;
+        } }
+        ensures stands { (s : Setup) (p : Viewer) → Stands s self.old p
+            → Stands s self.new (after_byte p byte) }
     {
         if let Some(hello) = &mut self.hello {
             // The hello uses the byte, since it wants one. It keeps a fault that the byte shows, and `hello_fault`
@@ -56,9 +61,14 @@ impl Session {
     fn read_hello(&mut self, piece: &[u8]) -> Result<usize, Fault>
         requires open { is_greeted self.old ≡ false }
         requires none { self.old.waiting ≡ None }
-        ensures others { self.new ≡ record self.old { greeting = self.new.greeting; piece = self.new.piece; unsent = self.new.unsent } }
+        ensures others { self.new ≡ record self.old {
+          greeting = self.new.greeting;
+          piece = self.new.piece;
+          unsent = self.new.unsent;
+        } }
         ensures ok { IfOk result (λ used. ReadsHello self.old self.new piece.now used) }
-        ensures err { IfErr result (λ fault. (hello_fault self.new ≡ Some fault) × IsFeeding self.old self.new [] piece.now []) }
+        ensures err { IfErr result (λ fault.
+            (hello_fault self.new ≡ Some fault) × IsFeeding self.old self.new [] piece.now []) }
     {
         let mut used = 0;
         while used < piece.len() && self.wants_hello() {
@@ -74,9 +84,11 @@ impl Session {
     /// A request for a rectangle is taken, clipped to the screen. An empty one is forgotten.
     fn ask(&mut self, incremental: bool, rect: &Rect)
         ensures same { IsSameSession self.old self.new }
-        ensures reader { (self.new.reader ≡ self.old.reader) × (self.new.greeting ≡ self.old.greeting) }
+        ensures reader { (self.new.reader ≡ self.old.reader)
+            × (self.new.greeting ≡ self.old.greeting) }
         ensures input { (self.new.held ≡ self.old.held) × (self.new.waiting ≡ self.old.waiting) }
-        ensures serves { (s : Setup) (p : Viewer) → Serves s self.old p → Serves s self.new (after_noting (Ask incremental rect.now) p) }
+        ensures serves { (s : Setup) (p : Viewer) → Serves s self.old p
+            → Serves s self.new (after_noting (Ask incremental rect.now) p) }
     {
         let clipped = rect.clip(self.width, self.height);
         self.asked.request(&clipped);
@@ -88,9 +100,11 @@ impl Session {
     /// A pixel format is taken: the viewer has nothing of the screen any longer.
     fn set_format(&mut self, format: Format)
         ensures same { IsSameSession self.old self.new }
-        ensures reader { (self.new.reader ≡ self.old.reader) × (self.new.greeting ≡ self.old.greeting) }
+        ensures reader { (self.new.reader ≡ self.old.reader)
+            × (self.new.greeting ≡ self.old.greeting) }
         ensures input { (self.new.held ≡ self.old.held) × (self.new.waiting ≡ self.old.waiting) }
-        ensures serves { (s : Setup) (p : Viewer) → Serves s self.old p → Serves s self.new (after_noting (SetPixelFormat format) p) }
+        ensures serves { (s : Setup) (p : Viewer) → Serves s self.old p
+            → Serves s self.new (after_noting (SetPixelFormat format) p) }
     {
         self.format = format;
         self.asked.new_format();
@@ -100,16 +114,20 @@ impl Session {
     /// A list of encodings is taken: from now on answers are written by the choice that it leads to.
     fn set_choice(&mut self, choice: Choice)
         ensures same { IsSameSession self.old self.new }
-        ensures reader { (self.new.reader ≡ self.old.reader) × (self.new.greeting ≡ self.old.greeting) }
+        ensures reader { (self.new.reader ≡ self.old.reader)
+            × (self.new.greeting ≡ self.old.greeting) }
         ensures input { (self.new.held ≡ self.old.held) × (self.new.waiting ≡ self.old.waiting) }
-        ensures serves { (s : Setup) (p : Viewer) → Serves s self.old p → Serves s self.new (after_noting (SetEncodings (choice_in choice)) p) }
+        ensures serves { (s : Setup) (p : Viewer) → Serves s self.old p
+            → Serves s self.new (after_noting (SetEncodings (choice_in choice)) p) }
     {
         self.choice = choice;
     }
 
     /// Where this input passes, it waits from now on.
     fn wait(&mut self, passes: bool, input: Input)
-        ensures { self.new ≡ record self.old { waiting = if passes then Some (input_in input) else self.old.waiting } }
+        ensures { self.new ≡ record self.old {
+          waiting = if passes then Some (input_in input) else self.old.waiting;
+        } }
     {
         if passes {
             self.waiting = Some(input);
@@ -120,8 +138,10 @@ impl Session {
     fn take_message(&mut self, message: ClientMessage)
         requires none { self.old.waiting ≡ None }
         ensures same { IsSameSession self.old self.new }
-        ensures reader { (self.new.reader ≡ self.old.reader) × (self.new.greeting ≡ self.old.greeting) }
-        ensures stands { (s : Setup) (p : Viewer) → Stands s self.old p → Stands s self.new (after_taking (message_of message) p) }
+        ensures reader { (self.new.reader ≡ self.old.reader)
+            × (self.new.greeting ≡ self.old.greeting) }
+        ensures stands { (s : Setup) (p : Viewer) → Stands s self.old p
+            → Stands s self.new (after_taking (message_of message) p) }
     {
         let passes = self.held.passes(self.role, &message);
         match message {
@@ -141,9 +161,13 @@ impl Session {
     fn read_one(&mut self, piece: &[u8]) -> Result<(usize, Option<ClientMessage>), Fault>
         requires { is_greeted self.old ≡ true }
         ensures others { self.new ≡ record self.old { reader = self.new.reader } }
-        ensures ok { IfOk result (λ read. ReadsOne self.old self.new piece.now read.0 (option_map message_of read.1) × (fault_of (ahead self.new.reader) ≡ None)) }
-        ensures progress { IfOk result (λ read. (read.0 ≤ length piece.now) × (0 < length piece.now → 0 < read.0)) }
-        ensures err { IfErr result (λ fault. FeedsOrLoses (ahead self.old.reader) (ahead self.new.reader) piece.now (Err fault)) }
+        ensures ok { IfOk result (λ read.
+            ReadsOne self.old self.new piece.now read.0 (option_map message_of read.1)
+            × (fault_of (ahead self.new.reader) ≡ None)) }
+        ensures progress { IfOk result (λ read.
+            (read.0 ≤ length piece.now) × (0 < length piece.now → 0 < read.0)) }
+        ensures err { IfErr result (λ fault.
+            FeedsOrLoses (ahead self.old.reader) (ahead self.new.reader) piece.now (Err fault)) }
     {
         let used = self.reader.feed(piece)?;
         let message = self.reader.take();
@@ -156,9 +180,13 @@ impl Session {
         requires none { self.old.waiting ≡ None }
         ensures same { IsSameSession self.old self.new }
         ensures greeting { self.new.greeting ≡ self.old.greeting }
-        ensures ok { IfOk result (λ fed. IsFeeding self.old self.new (marks_in fed.lost) piece.now (drop fed.used piece.now) × (fault_of (ahead self.new.reader) ≡ None)) }
-        ensures progress { IfOk result (λ fed. (fed.used ≤ length piece.now) × (0 < length piece.now → 0 < fed.used)) }
-        ensures err { IfErr result (λ fault. (fault_of (ahead self.new.reader) ≡ Some fault) × IsFeeding self.old self.new [] piece.now []) }
+        ensures ok { IfOk result (λ fed.
+            IsFeeding self.old self.new (marks_in fed.lost) piece.now (drop fed.used piece.now)
+            × (fault_of (ahead self.new.reader) ≡ None)) }
+        ensures progress { IfOk result (λ fed.
+            (fed.used ≤ length piece.now) × (0 < length piece.now → 0 < fed.used)) }
+        ensures err { IfErr result (λ fault. (fault_of (ahead self.new.reader) ≡ Some fault)
+            × IsFeeding self.old self.new [] piece.now []) }
     {
         let (used, message) = self.read_one(piece)?;
         let Some(message) = message else {
@@ -175,9 +203,13 @@ impl Session {
     pub fn feed_message(&mut self, piece: &[u8]) -> Result<Fed, Fault>
         requires none { self.old.waiting ≡ None }
         ensures same { IsSameSession self.old self.new }
-        ensures ok { IfOk result (λ fed. IsFeeding self.old self.new (marks_in fed.lost) piece.now (drop fed.used piece.now) × (fault_in self.new ≡ None)) }
-        ensures progress { IfOk result (λ fed. (fed.used ≤ length piece.now) × (0 < length piece.now → 0 < fed.used)) }
-        ensures err { IfErr result (λ fault. (fault_in self.new ≡ Some fault) × IsFeeding self.old self.new [] piece.now []) }
+        ensures ok { IfOk result (λ fed.
+            IsFeeding self.old self.new (marks_in fed.lost) piece.now (drop fed.used piece.now)
+            × (fault_in self.new ≡ None)) }
+        ensures progress { IfOk result (λ fed.
+            (fed.used ≤ length piece.now) × (0 < length piece.now → 0 < fed.used)) }
+        ensures err { IfErr result (λ fault.
+            (fault_in self.new ≡ Some fault) × IsFeeding self.old self.new [] piece.now []) }
     {
         if self.is_greeted() {
             return self.read_message(piece);

@@ -86,12 +86,19 @@ impl Session {
     /// each tile of which all that the viewer knows of lies inside the area counts as sent.
     fn answer(&mut self, area: Option<Rect>, number: u64) -> Option<Answer>
         requires { LiesOn self.old.cut.width self.old.cut.height area }
-        ensures others { self.new ≡ record self.old { asked = self.new.asked; have = self.new.have } }
+        ensures others { self.new
+            ≡ record self.old { asked = self.new.asked; have = self.new.have } }
         ensures last { self.new.asked.last ≡ self.old.asked.last }
         ensures stands { IfSome result (λ answer. AnswerStands answer self.old.cut) }
-        ensures bytes { begun_bytes result self.old.cut ≡ update_part (update_in (style_now self.old) self.old.cut area) }
-        ensures asked { (es : List Event) → AskedStands self.old.asked es → AskedStands self.new.asked (answered_at number (update_in (style_now self.old) self.old.cut area) es) }
-        ensures have { (es : List Event) → told_last es ≡ self.old.told → HaveStands self.old.have es → HaveStands self.new.have (answered_at number (update_in (style_now self.old) self.old.cut area) es) }
+        ensures bytes { begun_bytes result self.old.cut
+            ≡ update_part (update_in (style_now self.old) self.old.cut area) }
+        ensures asked { (es : List Event) → AskedStands self.old.asked es
+            → AskedStands self.new.asked
+            (answered_at number (update_in (style_now self.old) self.old.cut area) es) }
+        ensures have { (es : List Event) → told_last es ≡ self.old.told
+            → HaveStands self.old.have es
+            → HaveStands self.new.have
+            (answered_at number (update_in (style_now self.old) self.old.cut area) es) }
     {
         let area = area?;
         let style = Style {
@@ -111,10 +118,13 @@ impl Session {
 
     /// This size is told from now on: nothing is pending any longer, and no tile counts as sent.
     fn tell(&mut self, size: Size)
-        ensures others { self.new ≡ record self.old { told = Some size; asked = self.new.asked; have = self.new.have } }
+        ensures others { self.new
+            ≡ record self.old { told = Some size; asked = self.new.asked; have = self.new.have } }
         ensures last { self.new.asked.last ≡ self.old.asked.last }
-        ensures asked { (es : List Event) → AskedStands self.old.asked es → AskedStands self.new.asked (NewSize size ∷ es) }
-        ensures have { (es : List Event) → HaveStands self.old.have es → HaveStands self.new.have (NewSize size ∷ es) }
+        ensures asked { (es : List Event) → AskedStands self.old.asked es
+            → AskedStands self.new.asked (NewSize size ∷ es) }
+        ensures have { (es : List Event) → HaveStands self.old.have es
+            → HaveStands self.new.have (NewSize size ∷ es) }
     {
         self.told = Some(size);
         self.asked.answered();
@@ -129,14 +139,26 @@ impl Session {
         number: u64,
     ) -> Option<Answer>
         requires { LiesOn self.old.cut.width self.old.cut.height area }
-        ensures others { self.new ≡ record self.old { told = self.new.told; asked = self.new.asked; have = self.new.have } }
+        ensures others { self.new ≡ record self.old {
+          told = self.new.told;
+          asked = self.new.asked;
+          have = self.new.have;
+        } }
         ensures last { self.new.asked.last ≡ self.old.asked.last }
         ensures stands { IfSome result (λ answer. AnswerStands answer self.old.cut) }
         ensures alone { is_some result ≡ true → size ≡ None }
-        ensures bytes { size_and size (begun_bytes result self.old.cut) ≡ size_or_update size (update_in (style_now self.old) self.old.cut area) }
-        ensures told { (es : List Event) → told_last es ≡ self.old.told → told_last (told_or_answered number size (update_in (style_now self.old) self.old.cut area) es) ≡ self.new.told }
-        ensures asked { (es : List Event) → AskedStands self.old.asked es → AskedStands self.new.asked (told_or_answered number size (update_in (style_now self.old) self.old.cut area) es) }
-        ensures have { (es : List Event) → told_last es ≡ self.old.told → HaveStands self.old.have es → HaveStands self.new.have (told_or_answered number size (update_in (style_now self.old) self.old.cut area) es) }
+        ensures bytes { size_and size (begun_bytes result self.old.cut)
+            ≡ size_or_update size (update_in (style_now self.old) self.old.cut area) }
+        ensures told { (es : List Event) → told_last es ≡ self.old.told
+            → told_last (told_or_answered number size
+            (update_in (style_now self.old) self.old.cut area) es) ≡ self.new.told }
+        ensures asked { (es : List Event) → AskedStands self.old.asked es
+            → AskedStands self.new.asked
+            (told_or_answered number size (update_in (style_now self.old) self.old.cut area) es) }
+        ensures have { (es : List Event) → told_last es ≡ self.old.told
+            → HaveStands self.old.have es
+            → HaveStands self.new.have
+            (told_or_answered number size (update_in (style_now self.old) self.old.cut area) es) }
     {
         match size {
             None => self.answer(area, number),
@@ -150,16 +172,28 @@ impl Session {
     /// What the cut begins to send after its news: the size that the viewer is told, or else an answer for this area.
     fn begin_answer(&mut self, area: Option<Rect>, number: u64) -> (Option<Size>, Option<Answer>)
         requires { LiesOn self.old.cut.width self.old.cut.height area }
-        ensures others { self.new ≡ record self.old { told = self.new.told; asked = self.new.asked; have = self.new.have } }
+        ensures others { self.new ≡ record self.old {
+          told = self.new.told;
+          asked = self.new.asked;
+          have = self.new.have;
+        } }
         ensures last { self.new.asked.last ≡ self.old.asked.last }
         ensures size { result.0 ≡ size_now self.old }
         ensures small { IfSome result.0 IsSmall }
         ensures stands { IfSome result.1 (λ answer. AnswerStands answer self.old.cut) }
         ensures alone { is_some result.1 ≡ true → result.0 ≡ None }
-        ensures bytes { size_and result.0 (begun_bytes result.1 self.old.cut) ≡ size_or_update result.0 (update_in (style_now self.old) self.old.cut area) }
-        ensures told { (es : List Event) → told_last es ≡ self.old.told → told_last (told_or_answered number result.0 (update_in (style_now self.old) self.old.cut area) es) ≡ self.new.told }
-        ensures asked { (es : List Event) → AskedStands self.old.asked es → AskedStands self.new.asked (told_or_answered number result.0 (update_in (style_now self.old) self.old.cut area) es) }
-        ensures have { (es : List Event) → told_last es ≡ self.old.told → HaveStands self.old.have es → HaveStands self.new.have (told_or_answered number result.0 (update_in (style_now self.old) self.old.cut area) es) }
+        ensures bytes { size_and result.0 (begun_bytes result.1 self.old.cut)
+            ≡ size_or_update result.0 (update_in (style_now self.old) self.old.cut area) }
+        ensures told { (es : List Event) → told_last es ≡ self.old.told
+            → told_last (told_or_answered number result.0
+            (update_in (style_now self.old) self.old.cut area) es) ≡ self.new.told }
+        ensures asked { (es : List Event) → AskedStands self.old.asked es
+            → AskedStands self.new.asked (told_or_answered number result.0
+            (update_in (style_now self.old) self.old.cut area) es) }
+        ensures have { (es : List Event) → told_last es ≡ self.old.told
+            → HaveStands self.old.have es
+            → HaveStands self.new.have (told_or_answered number result.0
+            (update_in (style_now self.old) self.old.cut area) es) }
     {
         let size = self.new_size();
         let answer = self.tell_or_answer(size, area, number);
@@ -216,14 +250,20 @@ impl Session {
     /// where a source that may end has ended (`Gone`); then session and source are as they were.
     pub fn turn_at<S: ScreenSource>(&mut self, source: &mut S, looked: u64) -> Result<bool, Fault>
         requires ready { is_ready self.old ≡ true }
-        requires screen { (S.width source.old ≡ self.old.width) × (S.height source.old ≡ self.old.height) }
+        requires screen { (S.width source.old ≡ self.old.width)
+            × (S.height source.old ≡ self.old.height) }
         ensures same { IsSameViewer self.old self.new }
-        ensures size { (S.width source.new ≡ S.width source.old) × (S.height source.new ≡ S.height source.old) }
+        ensures size { (S.width source.new ≡ S.width source.old)
+            × (S.height source.new ≡ S.height source.old) }
         ensures grows { Begins (S.known source.old) (S.known source.new) }
-        ensures idle { wants_cut self.old.asked looked ≡ false → (result ≡ Ok false) × (self.new ≡ self.old) × (source.new ≡ source.old) }
-        ensures cuts { wants_cut self.old.asked looked ≡ true → IfOk result (λ _. CutsAt S.cuts source.old source.new self.old self.new (S.known source.new) (S.answered source.old) (S.answered source.new)) }
+        ensures idle { wants_cut self.old.asked looked ≡ false
+            → (result ≡ Ok false) × (self.new ≡ self.old) × (source.new ≡ source.old) }
+        ensures cuts { wants_cut self.old.asked looked ≡ true
+            → IfOk result (λ _. CutsAt S.cuts source.old source.new self.old self.new
+            (S.known source.new) (S.answered source.old) (S.answered source.new)) }
         ensures begun { IfOk result (λ begun. begun ≡ not (length self.new.unsent == 0)) }
-        ensures err { IfErr result (λ fault. (fault ≡ Gone) × S.may_end × (self.new ≡ self.old) × (source.new ≡ source.old)) }
+        ensures err { IfErr result (λ fault.
+            (fault ≡ Gone) × S.may_end × (self.new ≡ self.old) × (source.new ≡ source.old)) }
     {
         if !self.has_reason(looked) {
             return Ok(false);
@@ -246,12 +286,18 @@ impl Session {
     pub fn turn<S: ScreenSource>(&mut self, source: &mut S) -> Result<bool, Fault>
         requires { (S.width source.old ≡ self.old.width) × (S.height source.old ≡ self.old.height) }
         ensures same { IsSameViewer self.old self.new }
-        ensures size { (S.width source.new ≡ S.width source.old) × (S.height source.new ≡ S.height source.old) }
+        ensures size { (S.width source.new ≡ S.width source.old)
+            × (S.height source.new ≡ S.height source.old) }
         ensures grows { Begins (S.known source.old) (S.known source.new) }
-        ensures waits { is_ready self.old ≡ false → (result ≡ Ok false) × (self.new ≡ self.old) × (source.new ≡ source.old) }
-        ensures turns { is_ready self.old ≡ true → IfOk result (λ _. Turns S.looks S.cuts source.old source.new self.old self.new (S.known source.new) (S.answered source.old) (S.answered source.new)) }
-        ensures begun { is_ready self.old ≡ true → IfOk result (λ begun. begun ≡ not (length self.new.unsent == 0)) }
-        ensures err { IfErr result (λ fault. (fault ≡ Gone) × S.may_end × (self.new ≡ self.old) × HasOnlyLooked S.looks source.old source.new) }
+        ensures waits { is_ready self.old ≡ false
+            → (result ≡ Ok false) × (self.new ≡ self.old) × (source.new ≡ source.old) }
+        ensures turns { is_ready self.old ≡ true
+            → IfOk result (λ _. Turns S.looks S.cuts source.old source.new self.old self.new
+            (S.known source.new) (S.answered source.old) (S.answered source.new)) }
+        ensures begun { is_ready self.old ≡ true
+            → IfOk result (λ begun. begun ≡ not (length self.new.unsent == 0)) }
+        ensures err { IfErr result (λ fault. (fault ≡ Gone) × S.may_end × (self.new ≡ self.old)
+            × HasOnlyLooked S.looks source.old source.new) }
     {
         if !self.is_ready() {
             return Ok(false);
