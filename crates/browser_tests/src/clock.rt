@@ -19,7 +19,8 @@ pub(crate) struct ByHand<R: Drop> {
     pub(crate) is_standing: bool,
 }
 
-/// What a new clock shows, or the first random byte. It is never freed: the clock may be read for as long as a thread runs.
+/// What a new clock shows, or the first random byte. It is never freed: the clock may be read for as long as a thread
+/// runs.
 pub(crate) fn no_millis(alloc: Global) -> Result<&'static AtomicU64, AllocError> {
     let millis = Box::new(alloc, AtomicU64::new(0))?;
     Ok(Box::leak(millis))

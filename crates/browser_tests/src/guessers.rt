@@ -25,8 +25,8 @@ const ANSWER: &[u8] = &[
 /// SecurityResult 1, and the reason.
 const WRONG: &[u8] = b"\0\0\0\x01\0\0\0\x0Ewrong password";
 
-/// What a browser is told that knows the password where the place is taken: SecurityResult 1, the reason in a message of
-/// its own, and a close frame with 1013, try again later (RFC 6455, 5.5.1).
+/// What a browser is told that knows the password where the place is taken: SecurityResult 1, the reason in a message
+/// of its own, and a close frame with 1013, try again later (RFC 6455, 5.5.1).
 const TAKEN: &[u8] = b"\x82\x04\0\0\0\x01\x82\x18\0\0\0\x14all places are taken\x88\x02\x03\xF5";
 
 /// How a browser puts its answer into messages.
@@ -49,7 +49,7 @@ fn asked(house: &House<'_>, choice: &[u8]) -> Option<Browser> {
     if is_asked { Some(browser) } else { None }
 }
 
-/// Whether a browser answers its challenge so, once it has heard that.
+/// Hears the first challenge, and gives this answer to it. It answers whether both went well.
 fn answers(browser: &mut Browser, answer: &[u8], messages: Messages) -> bool {
     let hears_it = browser.hears(CHALLENGE);
     match messages {
@@ -92,7 +92,7 @@ fn is_none_refused(house: &House<'_>) -> bool {
     }
 }
 
-/// Whether a browser is told nothing more whose message goes on behind the right answer.
+/// Whether a browser is told nothing more that has sent the right answer in a message with a further byte.
 fn is_long_one_refused(house: &House<'_>) -> bool {
     let mut long = [1u8; 17];
     let (front, _) = long.split_at_mut(16);

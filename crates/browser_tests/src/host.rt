@@ -44,7 +44,7 @@ fn is_joined(stream: &mut TcpStream) -> bool {
     is_right && hears(stream, KEY)
 }
 
-/// Whether the next client that connects does so. The connection ends then.
+/// Whether the next client that connects joins as it should, and tells this key. The connection ends then.
 pub(crate) fn is_told_a_key(listener: &TcpListener) -> bool {
     match accept(listener) {
         Some(mut stream) => is_joined(&mut stream),

@@ -102,7 +102,8 @@ pub(crate) struct House<'a> {
     pub(crate) drawn: &'static AtomicU64,
 }
 
-/// Whether a viewer is greeted with a byte. Behind a lock that comes after what its browser has heard in other words.
+/// Whether a viewer is greeted with a byte. Behind a lock its owner first gives the version and the list of types, of
+/// which nothing is sent, since the browser has heard others in their place.
 fn is_greeted<L: Link>(link: &mut L, is_locked: bool) -> bool {
     let begins = !is_locked
         || (link.give(VERSION) == Gave::Bytes(12) && link.give(b"\x01\x01") == Gave::Bytes(2));

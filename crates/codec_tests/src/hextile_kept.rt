@@ -140,7 +140,7 @@ fn forms_of(
     Ok(forms)
 }
 
-/// Writes what a rectangle of colours shows as joined runs, with forms of these.
+/// Writes a rectangle of colours as joined runs, with these forms of its tiles.
 fn write_kept(
     forms: &[Option<TileForm>],
     colours: &[u32],
@@ -166,7 +166,7 @@ fn write_kept(
     encode_from(Runs::Joined, &source, forms, format, out)
 }
 
-/// Whether pixel values are written with forms of their colours as they are without.
+/// Whether the same bytes are written from colours with these forms as from their pixel values without any.
 fn is_written_the_same(
     forms: &[Option<TileForm>],
     colours: &[u32],
@@ -232,7 +232,7 @@ fn is_written_with_edges(
     is_drawn_the_same(alloc, drawing, 32, 32, format)
 }
 
-/// Whether a drawing whose numbers have bits above a colour's 24 is written as its colours are.
+/// Whether a drawing is written as before where its numbers have further bits, above the 24 of a colour.
 fn is_written_without_more_bits(
     alloc: Global,
     drawing: Drawing,

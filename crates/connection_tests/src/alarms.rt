@@ -126,7 +126,7 @@ fn everyone(
     })
 }
 
-/// Whether a new flag, with the alarm of a writer and of this place, does so.
+/// Whether `ends_both` is true of a new flag, whose alarm is that of a writer and of this place.
 pub(crate) fn ends_each_wait<R: Threads + Wait + Send + Sync, L: Link + Send>(
     rt: &R,
     net: &HostRuntime,

@@ -151,7 +151,8 @@ fn visits<R: Wait + Clock + Drop>(house: &House<'_, R>, visitors: Visitors) -> b
     is_right.unwrap_or(false)
 }
 
-/// Whether these visitors are met so while the port and its place are kept, and what is counted at the place.
+/// Keeps the port and its place while these visitors come. It answers whether they were met as they should be, and what
+/// was counted at the place.
 fn serves<R, D>(
     rt: R,
     hand: &ByHand<'_, R>,
@@ -193,8 +194,8 @@ fn key_for(visitors: Visitors) -> Key {
     }
 }
 
-/// What `serves` answers with a new port, where nothing was counted of each viewer as it came. The port's clock goes on
-/// only where viewers wait for a place.
+/// What `serves` answers at a new port; also, nothing may have been counted of any viewer as it came. The port's clock
+/// goes on only where viewers wait for a place.
 fn opens<R>(rt: R, net: &HostRuntime, visitors: Visitors) -> io::Result<(bool, Count)>
 where
     R: Threads + Wait + Clock + Copy + Drop + Send + Sync,

@@ -39,7 +39,7 @@ fn is_answered_when_full<L: Link>(writer: &mut L) -> bool {
     false
 }
 
-/// Whether one of these is so for the two ends of a new connection.
+/// Makes a new connection, and answers whether its two ends pass the one trial or, where `is_full`, the other.
 fn is_right(rt: &HostRuntime, is_full: bool) -> io::Result<bool> {
     let (far, near) = pair(rt)?;
     let (mut reader, mut writer) = HostLink::pair(near)?;

@@ -240,7 +240,7 @@ fn does<L: Link>(link: &mut L, act: Act, large: &[u8]) -> bool {
     }
 }
 
-/// Whether what was sent from this place on is exactly the one after the other.
+/// Whether what was sent from place `seen` on is exactly `first` and then `second`.
 fn is_next(sent: &[u8], seen: usize, first: &[u8], second: &[u8]) -> bool {
     let (_, new) = sent.split_at(seen.min(sent.len()));
     let (front, back) = new.split_at(first.len().min(new.len()));
@@ -257,7 +257,7 @@ fn has_sent(socket: &MemorySocket, seen: usize, act: Act, large: &[u8]) -> bool 
     }
 }
 
-/// Whether what comes of each act is as told, and of all of them.
+/// Whether each act comes out as told, and so do all of them together.
 fn does_all<R: Wait + Clock + Drop>(
     link: &mut ViewerTcpLink<R, MemorySocket>,
     case: &Case,
@@ -353,7 +353,7 @@ fn is_told_and_read<R: Clock + Drop>(link: &mut JoiningLink<R, MemorySocket>) ->
     is_told && has_sent && is_lifted && is_read && is_closed
 }
 
-/// Whether this is so of a new link.
+/// Whether `is_told_and_read` is true of a new link.
 fn host_is_told<R: Clock + Drop>(rt: R, alloc: Global) -> io::Result<bool> {
     let below = MemorySocket::new(alloc, VERSION, HOST_SENDS, HOST_RECEIVES)?;
     let mut link = JoiningLink::new(rt, HostLink::over(below))?;

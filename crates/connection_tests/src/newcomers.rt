@@ -43,7 +43,7 @@ fn begin<R: Wait + Drop>(house: &House<'_, R>, bytes: &[u8]) -> io::Result<TcpSt
     Ok(stream)
 }
 
-/// Whether a newcomer is told the version, which sends these bytes and then leaves.
+/// A newcomer sends these bytes and then leaves. It answers whether the newcomer was told the version.
 fn leaves_after<R: Wait + Drop>(house: &House<'_, R>, bytes: &[u8]) -> io::Result<bool> {
     let mut stream = begin(house, bytes)?;
     hears(&mut stream, VERSION)

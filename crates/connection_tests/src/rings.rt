@@ -99,7 +99,7 @@ fn rings_and_relays<R: Wait + Drop, S: InputSink>(
     }
 }
 
-/// Whether this is so with a new relay of one place.
+/// Whether `rings_and_relays` is true with a new relay of one place.
 fn send_rings<R: Wait + Copy + Drop>(rt: R, alloc: Global) -> Result<bool, Fault> {
     let writer = Arc::new(alloc, WriterSeat::new())?;
     let alarm = Arc::try_clone(&writer)?;

@@ -8,7 +8,7 @@ use Rattle.connections.specs.declared.caller.WebNewcomer.{WebNewcomer}
 use Rattle.connections.specs.declared.caller.WebNewcomer.TheVariants.{Asks}
 
 -- A caller of this port asks the port's site, has the role and the key of its listener, and may be let to its lobby. A
--- header is read of it exactly where it comes from the believed proxy.
+-- proxy's header is read from the caller exactly where it comes from the believed proxy.
 pub record IsCallerAt (entry : WebEntry) (caller : Caller) : Type 0 where
   pub role : caller.arrival.role ≡ entry.listener.role
   pub key : caller.arrival.key ≡ entry.listener.key
@@ -16,7 +16,7 @@ pub record IsCallerAt (entry : WebEntry) (caller : Caller) : Type 0 where
   pub site : caller.guest.site ≡ arc_value entry.site
   pub lobby : arc_value caller.lobby ≡ arc_value entry.lobby
 
--- A newcomer that asks, of which this holds.
+-- The newcomer asks a site, and this is true of it.
 abbrev pub IsAsking : WebNewcomer → (Caller → Type 0) → Type 0
 IsAsking (Asks caller) holds = holds caller
 IsAsking _ holds = ⊥

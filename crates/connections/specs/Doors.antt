@@ -17,7 +17,7 @@ role_behind door = (arc_value door.lobby).role
 abbrev pub links_behind : {R G : Type 0} → TcpDoor R G → List LinkState
 links_behind door = links_in viewer_state door.links
 
--- A door that has noted these links since: it is still the door of that place, with viewers of that lobby.
+-- The new door is of the same place and the same lobby as the old one, and has noted these links since.
 pub record HasNoted {R G : Type 0} (old : TcpDoor R G) (noted : List LinkState) (new : TcpDoor R G) : Type 0 where
   pub lobby : new.lobby ≡ old.lobby
   pub place : new.place ≡ old.place

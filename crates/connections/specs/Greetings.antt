@@ -74,11 +74,11 @@ pub record Begun : Type 0 where
   pub sent : List ℕ
   pub received : List ℕ
 
--- The version is said from its first byte on, and behind it, at a locked port, the question. What has come is the
--- header of a proxy, where one is believed, and after it the newcomer's own version, and then its answer. Nothing is
--- heard or said before its turn: the newcomer's version after the whole of ours, the question after the newcomer's
--- version, which is ours; the choice after the list of types; the challenge after the choice, which is type 2; and
--- what answers it after the whole challenge.
+-- The version is said from its first byte on, and at a locked port the question after it. What has come is the header
+-- of a proxy, where one is believed, then the newcomer's own version, and then its answer. Nothing is said or heard
+-- before its turn. The newcomer's version is heard after the whole of ours; the question is asked after the newcomer's
+-- version, which is then the same as ours; the choice is heard after the list of types; the challenge is said after the
+-- choice, which is then type 2; and what answers the challenge is heard after the whole of it.
 pub record IsGreeting (b : Begun) : Type 0 where
   pub said : b.sent ≡ take b.said version ++ take b.asked (question b.challenge)
   pub heard : b.received ≡ b.whence.front ++ (b.own ++ b.answered)
@@ -97,16 +97,17 @@ pub record IsSameGreeting (old new : Begun) : Type 0 where
   pub key : new.key ≡ old.key
   pub challenge : new.challenge ≡ old.challenge
 
--- Two conversations go on alike behind their beginnings: an owner's, and that of the socket below.
+-- An owner has said or heard its own beginning, and the socket below what was exchanged in place of that. After these
+-- the same bytes follow for both.
 pub record GoOnAlike (owners : List ℕ) (beginning : List ℕ) (belows : List ℕ) (exchanged : List ℕ) : Type 0 where
   pub rest : List ℕ
   pub owner : owners ≡ beginning ++ rest
   pub below : belows ≡ exchanged ++ rest
 
 -- What contracts see of a socket by which a newcomer was greeted: what its owner has sent and received by it; what the
--- socket below has sent and received; with which bytes the owner begins, and how many of them it still owes; with which
--- bytes what it hears begins, and how many of them are still ahead of it; the header of a proxy that came before; and
--- what was said and heard by the socket below in place of both beginnings.
+-- socket below has sent and received; the bytes with which the owner has to begin, and those of them that it still
+-- owes; the bytes that the owner hears first, and those of them that are still ahead of it; the header of a proxy that
+-- came before; and what the socket below said and heard in place of the two beginnings.
 pub record Greeted : Type 0 where
   pub sent : List ℕ
   pub received : List ℕ
@@ -120,8 +121,9 @@ pub record Greeted : Type 0 where
   pub said : List ℕ
   pub heard : List ℕ
 
--- What the owner has sent and owes begins with what it is to say, and the socket below has sent what was said in place
--- of that, and then the same. It is so with what is received, where a header may have come before.
+-- What the owner has sent and still owes is its beginning and then some bytes. The socket below has sent what was said
+-- in place of that beginning, and then the same bytes. It is likewise for what was received, where the header of a
+-- proxy may have come before all else.
 pub record Matches (g : Greeted) : Type 0 where
   pub sent : GoOnAlike (g.sent ++ g.owed) g.spoken g.below_sent g.said
   pub received : GoOnAlike (g.received ++ g.ahead) g.shown g.below_received (g.front ++ g.heard)

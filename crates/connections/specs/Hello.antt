@@ -12,8 +12,9 @@ hello_len = 14
 abbrev pub hello_nanos : ℕ
 hello_nanos = 10_000_000_000
 
--- How long a wait may last where this many bytes of the hello are missing, this many nanoseconds after the viewer came:
--- for what is left of the ten seconds, if anything is. After them a wait may last without an end, or the hello is late.
+-- How long a wait may last where this many bytes of the hello are missing, this many nanoseconds after the viewer came.
+-- Within the ten seconds it may last until they are over. After that it may last without an end where no byte is
+-- missing; otherwise the hello is late.
 abbrev pub IsPatience : Patience → ℕ → ℕ → Type 0
 IsPatience (AtMost left) missing passed = (passed < hello_nanos) × (as_nanos left + passed ≡ hello_nanos)
 IsPatience Endless missing passed = (hello_nanos ≤ passed) × (missing ≡ 0)

@@ -40,8 +40,8 @@ abbrev pub HasUnlocked : Key → (said heard : List ℕ) → Type 0
 HasUnlocked Open said heard = Unit {0}
 HasUnlocked (Locked password) said heard = Unlocks password said heard
 
--- What was said by these bytes, and heard by these: where a newcomer's bytes travel in messages, the data in the frames
--- that a client reads, and that it sends.
+-- What these bytes say: all of them over TCP; where a newcomer's bytes travel in messages, the data of the frames, as a
+-- client reads them (`said_in`) or sends them (`heard_in`).
 abbrev pub said_in : Way → List ℕ → List ℕ
 said_in Tcp bytes = bytes
 said_in Web bytes = data_in (fresh false) bytes

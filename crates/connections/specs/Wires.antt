@@ -9,7 +9,8 @@ abbrev pub moved : Result ℕ Error → List ℕ → List ℕ
 moved (Ok count) bytes = take count bytes
 moved (Err error) bytes = []
 
--- The bytes of a slice that a send with this answer has moved, where before others were sent ahead of it.
+-- The bytes of a slice that a send with this answer has moved, where this many other bytes were sent ahead of the
+-- slice.
 abbrev pub moved_behind : (before : ℕ) → Result ℕ Error → List ℕ → List ℕ
 moved_behind before (Ok count) bytes = take (count - before) bytes
 moved_behind before (Err error) bytes = []

@@ -102,7 +102,8 @@ impl Account {
         self.ends = LIMIT.min(self.ends + 1);
     }
 
-    /// Notes what the link took by a receive into this slice, which was answered so.
+    /// Notes a receive to which the system gave this answer; what came is at the front of `into`. It answers what this
+    /// comes to for the link's `take`.
     pub(crate) fn take(&mut self, answer: &io::Result<usize>, into: &[u8]) -> Took
         requires { ReadsAtMost answer.now into.now }
         ensures answer { result ≡ took_for answer.now }
@@ -123,7 +124,8 @@ impl Account {
         took
     }
 
-    /// Notes what the link gave by a send of these bytes, which was answered so.
+    /// Notes a send of these bytes, to which the system gave this answer. It answers what this comes to for the link's
+    /// `give`.
     pub(crate) fn give(&mut self, answer: &io::Result<usize>, bytes: &[u8]) -> Gave
         requires { WritesAtMost answer.now bytes.now }
         ensures answer { result ≡ gave_for answer.now }
@@ -144,8 +146,8 @@ impl Account {
         gave
     }
 
-    /// Notes what the link gave by a send of this many kept bytes and then these, which was answered so: nothing where
-    /// no more went out than was kept.
+    /// Notes a send of `kept` kept bytes and then these bytes, to which the system gave this answer. Of these bytes,
+    /// those that went out count as given; none do where no more went out than was kept.
     pub(crate) fn give_behind(
         &mut self,
         kept: usize,

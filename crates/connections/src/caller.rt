@@ -74,7 +74,7 @@ pub(crate) enum WebNewcomer {
     Asks(Caller),
     /// It is asked for the password.
     IsAsked(LockedOut),
-    /// It was neither let in nor is it asked.
+    /// It wasn't let in, and it isn't asked for the password.
     Left,
 }
 
@@ -207,8 +207,8 @@ impl Caller {
         }
     }
 
-    /// Whether the caller has taken too long to ask, or too long to take a part of an answer. It has the same time in a
-    /// crowd as else.
+    /// Whether the caller has taken too long to ask, or too long to take a part of an answer. A crowd of newcomers
+    /// leaves it no less time.
     fn is_late(&self, now: Instant) -> bool {
         now.checked_duration_since(self.since)
             .is_some_and(|passed| passed >= Duration::from_secs(GUEST_SECONDS))

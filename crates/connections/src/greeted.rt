@@ -14,20 +14,21 @@ use std::marker::Model;
 /// The most bytes with which an owner begins: the version, and a list of one security type (RFC 6143, 7.1.1, 7.1.2).
 pub(crate) const MOST_SPOKEN: usize = 14;
 
-/// The most bytes with which what it hears begins: a version, and the choice of a type.
+/// The most bytes that an owner hears first in place of what was heard: a version, and the choice of a type.
 pub(crate) const MOST_SHOWN: usize = 13;
 
-/// A socket by which, perhaps, something was said and heard before it had an owner: both versions and, at a locked
-/// port, what asks for a password and answers that. Its owner sends and receives as if nothing had been said or heard
-/// yet, and as at an open port. None of the bytes with which it begins is sent, and those with which what it hears
-/// begins come first. Behind them both sides say and hear the same. A send of another beginning fails.
+/// A socket over which, perhaps, something was said and heard before it had an owner: both versions and, at a locked
+/// port, the question and its answer. Its owner sends and receives as if nothing had been said or heard yet, and the
+/// port were open. The bytes with which the owner has to begin aren't sent, since others were said in their place. The
+/// bytes that the owner hears first aren't received, since others were heard in their place. After these beginnings the
+/// owner sends and receives the same as the socket below. A send of another beginning fails.
 #[derive(Drop)]
 pub struct GreetedSocket<S: Socket> {
     socket: S,
-    // With what the owner begins, and how many of these bytes it has sent.
+    // The bytes with which the owner has to begin, and how many of these it has sent.
     spoken: ArrayVec<u8, MOST_SPOKEN>,
     given: usize,
-    // With what that begins which it hears, and how many of these bytes it has received.
+    // The bytes that the owner hears first, and how many of these it has received.
     shown: ArrayVec<u8, MOST_SHOWN>,
     taken: usize,
     // What the owner has sent and received, the header that came before, and what was said and heard in place of both
@@ -140,8 +141,8 @@ impl<S: Socket> GreetedSocket<S> {
         self.socket
     }
 
-    /// It does nothing. Its clause says that, at every moment, what the owner says and hears by this socket is what the
-    /// socket below does, but for the beginnings of both.
+    /// It does nothing. Its clause says that, at every moment, the owner sends and receives the same as the socket
+    /// below, except for the beginnings of both.
     pub fn matches(&self)
         ensures { Matches self.now }
     {

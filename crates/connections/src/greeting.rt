@@ -86,7 +86,7 @@ fn unwanted() -> io::Error {
     io::Error::from(ErrorKind::InvalidData)
 }
 
-/// With what an owner begins: the version, and these bytes.
+/// The bytes with which an owner has to begin: the version, and these.
 pub(crate) fn spoken_of(more: &[u8]) -> ArrayVec<u8, MOST_SPOKEN>
     requires { length more.now ≤ 2 }
     ensures { result.items ≡ version ++ more.now }
@@ -97,7 +97,7 @@ pub(crate) fn spoken_of(more: &[u8]) -> ArrayVec<u8, MOST_SPOKEN>
     spoken
 }
 
-/// With what begins that which it hears: a version, and these bytes.
+/// The bytes that an owner hears first: this version, and these.
 pub(crate) fn shown_of(own: &[u8], more: &[u8]) -> ArrayVec<u8, MOST_SHOWN>
     requires { length own.now + length more.now ≤ 13 }
     ensures { result.items ≡ own.now ++ more.now }
@@ -139,9 +139,9 @@ impl<S: Socket> Greeting<S> {
         }
     }
 
-    /// It does nothing. Its clause says that, at every moment, what was sent is the beginning of the version and of
-    /// what is asked at a locked port, what was received is a header and the beginning of the newcomer's own version
-    /// and of its answer, and nothing was said or heard before its turn.
+    /// It does nothing. Its clause says what is true at every moment. What was sent is the beginning of the version and
+    /// of what is asked at a locked port. What was received is a header and the beginning of the newcomer's own version
+    /// and of its answer. Nothing was said or heard before its turn.
     pub fn is_right(&self)
         ensures { IsGreeting self.now }
     {
@@ -211,7 +211,7 @@ impl<S: Socket> Greeting<S> {
         Ok(())
     }
 
-    /// Asks on: says what is left of the first bytes of the question, this many of which are due, as far as it goes.
+    /// Says more of the question: what is left of its first `due` bytes, as far as it goes.
     fn ask(&mut self, due: usize) -> io::Result<()>
         requires due { due ≤ 18 }
         requires left { self.old.asked ≤ due }
@@ -231,7 +231,7 @@ impl<S: Socket> Greeting<S> {
         Ok(())
     }
 
-    /// Hears what is missing of the first bytes of the answer, this many of which are wanted, as far as it has come.
+    /// Hears more of the answer: what is missing of its first `wanted` bytes, as far as they have come.
     #[tactic(auto, using(crate::proofs::Asked::heard, crate::proofs::Asked::same_choice))]
     fn hear_answer(&mut self, wanted: usize) -> io::Result<()>
         requires wanted { wanted ≤ 17 }

@@ -25,8 +25,9 @@ pub(crate) enum Patience {
 }
 
 /// How long a wait may last where `missing` bytes of the hello are missing, this long after the viewer came. A wait
-/// that begins within the seconds for the hello never outlasts them, even where no byte is missing here. Bytes may
-/// carry messages in which some of the hello is still missing, and the link that counts those looks again then.
+/// that begins within the seconds for the hello never outlasts these, even where no byte is missing here. For the bytes
+/// may carry messages in which some of the hello is still missing, and the link that counts those bytes looks again
+/// then.
 pub(crate) fn longest_wait(missing: usize, passed: Duration) -> Patience
     ensures { IsPatience result missing (as_nanos passed) }
 {

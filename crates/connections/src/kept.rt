@@ -77,7 +77,7 @@ impl Kept {
         count
     }
 
-    /// The first bytes, this many, have gone out.
+    /// This many bytes have gone out, from the front.
     fn pass(&mut self, count: usize)
         requires { count ≤ length self.old.bytes }
         ensures bytes { self.new.bytes ≡ drop count self.old.bytes }

@@ -20,7 +20,7 @@ pub(crate) const ANSWERED_LEN: usize = 17;
 /// The security type of VNC Authentication (RFC 6143, 7.2.2).
 pub(crate) const VNC_AUTHENTICATION: u8 = 2;
 
-/// The security type of those that nothing is asked of (RFC 6143, 7.2.1).
+/// The security type None, by which nothing is asked (RFC 6143, 7.2.1).
 pub(crate) const NONE: u8 = 1;
 
 /// Who may come by a port: each, or only those who know a password.

@@ -341,9 +341,9 @@ impl<R: Wait + Clock + Drop + Copy, G: Log + Drop> TcpDoor<R, G> {
         }
     }
 
-    /// Receives a newcomer: answers its link, unless that can't be made, nobody is let in any more, or the newcomer
-    /// came by another role's listener, or by an open port where the lobby's is locked. The lobby takes in none of
-    /// these, but its lock can't keep that for the proof.
+    /// Receives a newcomer, and answers its link. It answers `None` where that can't be made, where nobody is let in
+    /// any more, and where the newcomer came by another role's listener, or by an open port while the lobby's is
+    /// locked. The lobby takes in none of the latter, but its lock can't keep that for the proof.
     fn receive(&mut self, entrant: Entrant) -> Option<ViewerLink<R>>
         ensures came { IfSome result (λ link. viewer_state link ≡ unused) }
         ensures noted { HasNoted self.old [] self.new }

@@ -24,7 +24,7 @@ use std::time::{Clock, Duration, Instant};
 /// The most connections that aren't viewers yet in one porter. The others wait in the system's queue.
 pub const MOST_GUESTS: usize = 64;
 
-/// How many of the sockets that a poll heard are told at once.
+/// The most sockets of which a poll tells at once.
 const MOST_EVENTS: usize = 128;
 
 /// After how many milliseconds, at the latest, newcomers that are late are let go and a closed lobby is seen.
@@ -236,8 +236,8 @@ impl<P: Port> Porch<P> {
         }
     }
 
-    /// Lets the newcomers ask that wait at the ports. A poll hears a port once for all of them, so each port is looked
-    /// at whenever a slot may be free.
+    /// Lets those newcomers ask that wait at the ports. A poll hears a port once for all of its newcomers, so each port
+    /// is looked at whenever a slot may be free.
     fn let_all_ask<R: Wait + Clock + RandomSource>(&mut self, rt: &R) {
         for port in 0..self.entries.len() {
             self.let_ask(rt, port);
@@ -274,7 +274,7 @@ fn wake(seats: &[Arc<Seat, Global>]) {
     }
 }
 
-/// Whether it is time to wake the places again. It is also where the clock can't be read.
+/// Whether it is time to wake the places again. Where the clock can't be read it always is.
 fn is_due<R: Clock>(rt: &R, woken: &Option<Instant>) -> bool {
     match woken {
         Some(woken) => match woken.elapsed(rt) {

@@ -43,9 +43,9 @@ pub(crate) struct Refused {
     in_vain: Option<Instant>,
 }
 
-/// Says these bytes to a newcomer that isn't let in, in messages where its own bytes travel in messages. Bytes that
-/// were said before aren't said again; they count as sent in a call of their own. A peer that is gone already needs no
-/// reason.
+/// Says these bytes, a version and a reason, to a newcomer that isn't let in; they go in messages where the newcomer's
+/// own bytes do. A version that was said before isn't said again. It counts as sent in a call of its own, so each of
+/// the two has one. A peer that is gone already needs no reason.
 fn say<S: Socket>(socket: &mut S, way: Way, bytes: &[u8])
     requires long { 12 < length bytes.now }
     requires short { length bytes.now ≤ 116 }

@@ -128,7 +128,7 @@ impl RoleListener {
     }
 
     /// A viewer that was called, as a newcomer to this listener's port. It is `None` for one that was called in another
-    /// role; the caller of this role calls none of these, but its lock can't keep that for the proof.
+    /// role. The caller of this role calls none of those, but its lock can't keep that for the proof.
     pub(crate) fn take_in(&self, called: Called) -> Option<Arrival>
         ensures role { IfSome result (λ arrival. arrival.role ≡ self.now.role) }
         ensures key { IfSome result (λ arrival. arrival.key ≡ self.now.key) }
@@ -283,7 +283,8 @@ impl Entrant {
     }
 
     /// A newcomer that was greeted in messages, by a listener of this role: its own version has come and, at a locked
-    /// port, the answer to its challenge. It is `None` where that hasn't come, and where the message goes on behind it.
+    /// port, the answer to its challenge. It is `None` where that hasn't come, and where the message that brought it
+    /// has more bytes after it.
     #[tactic(auto, using(crate::proofs::Unlocking::carried))]
     pub(crate) fn greeted_in_messages(
         role: Role,
@@ -300,7 +301,8 @@ impl Entrant {
         let (messages, address) = greeting.done()?;
         let (stream, said, heard) = messages.into_below().into_below()?;
         let front = Record::new();
-        // Nothing of it is said or heard again by this socket: its link says and hears the frames behind it.
+        // By this socket nothing of the greeting is said or heard again: its link says and hears the frames after the
+        // greeting.
         let socket = GreetedSocket::greeted(
             stream,
             front,
@@ -326,8 +328,8 @@ impl Entrant {
     }
 
     /// It does nothing. Its clause says that nobody becomes an entrant of a locked port without the answer to its own
-    /// challenge: the version and a challenge were said to it, and it has answered just that challenge as only someone
-    /// does who knows the password. Where its bytes travel in messages, it is so with the data of the frames.
+    /// challenge: the version and a challenge were said to the entrant, and it has answered that challenge as only
+    /// someone can who knows the password. Where its bytes travel in messages, this is true of the data of the frames.
     pub fn has_unlocked(&self)
         ensures { ∥ HasUnlockedBy self.now.way self.now.key
             self.now.socket.said self.now.socket.heard ∥₁ }

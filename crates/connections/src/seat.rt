@@ -22,8 +22,8 @@ struct Ears {
 /// Where the thread of a place waits for its viewer's socket and for the alarm, both at once. Only the place's thread
 /// locks the ears, so it never waits for the lock.
 ///
-/// `rung` is set from a ring until the thread answers, and while it is set a ring costs one exchange. The thread
-/// answers before it looks for news, so a ring that comes too late for an answer comes early enough for the look.
+/// A ring sets `rung`, and the thread's answer clears it; while it is set a ring costs one exchange. The thread answers
+/// before it looks for news. So where a ring finds `rung` set, the look that finds its news is still to come.
 #[derive(Drop)]
 pub struct Seat {
     rung: AtomicBool,

@@ -37,7 +37,7 @@ fn parting_after(before: Parting, answer: &io::Result<usize>) -> Parting {
     }
 }
 
-/// How many bytes the system has taken with this many more. The number is noted at the seat.
+/// How many bytes the system has taken, with `more` added to those before. The number is noted at the seat.
 fn counted(seat: &Seat, sent: u64, more: usize) -> u64 {
     let sent = sent.saturating_add(more as u64);
     seat.count().note_bytes(sent);
@@ -121,9 +121,9 @@ impl<R: Wait + Clock + Drop> ViewerTcpLink<R> {
         ViewerTcpLink::at(rt, alloc, socket, seat, HELLO_LEN)
     }
 
-    /// A link that has taken and given nothing, over a socket by which the viewer may have been greeted. So many bytes
-    /// of the viewer's hello are awaited over it: none where a link above awaits them. This seat hears the socket from
-    /// now on. It fails where memory is refused, or where the system refuses the clock.
+    /// A link that has taken and given nothing, over a socket by which the viewer may have been greeted. Over it
+    /// `awaited` bytes of the viewer's hello are awaited: none where a link above awaits them. This seat hears the
+    /// socket from now on. It fails where memory is refused, or where the system refuses the clock.
     pub fn at(
         rt: R,
         alloc: Global,
@@ -316,8 +316,8 @@ impl<R: Wait + Clock + Drop, S: Socket> ViewerTcpLink<R, S> {
         took
     }
 
-    /// How long a wait may last now: this long, or without an end. It is `None` where the hello is late, which also
-    /// counts as so where the clock can't be read.
+    /// How long a wait may last now: this long, or without an end. It is `None` where the hello is late, and where the
+    /// clock can't be read.
     fn patience(&mut self) -> Option<Option<Duration>>
         ensures { self.new.own ≡ self.old.own }
     {
@@ -401,8 +401,8 @@ impl<R: Wait + Clock + Drop, S: Socket> Link for ViewerTcpLink<R, S> {
         gave
     }
 
-    /// A caller that uses this doesn't wait in `take`, so bytes for which there was no room before are tried again
-    /// here.
+    /// A caller that flushes may not wait in `take`, where room would be found. So bytes for which there was no room
+    /// before are tried again here.
     fn flush(&mut self) {
         self.is_blocked = false;
         self.write_all_kept();

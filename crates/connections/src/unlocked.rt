@@ -11,16 +11,17 @@ use link::{Gave, Link, Record, Took};
 use std::marker::Model;
 use web_link::{GatheringLink, WebLink};
 
-/// A link to a peer that was asked for a password before, and has answered it, where the port was locked. Its owner says
-/// and hears as at an open port: none of the bytes with which it begins is given to the link below, and those with which
-/// what it hears begins come first. Behind them both links carry the same. A give of another beginning fails.
+/// A link to a peer that has unlocked its port before, where that was locked. Its owner gives and takes as at an open
+/// port. The bytes with which the owner has to begin aren't given to the link below, and those that the owner hears
+/// first aren't taken from it. After these beginnings the owner gives and takes the same as the link below. A give of
+/// another beginning fails.
 #[derive(Drop)]
 pub(crate) struct UnlockedLink<L: Link> {
     link: L,
-    // With what the owner begins, and how many of these bytes it has given.
+    // The bytes with which the owner has to begin, and how many of these it has given.
     spoken: ArrayVec<u8, MOST_SPOKEN>,
     given: usize,
-    // With what that begins which it hears, and how many of these bytes it has taken.
+    // The bytes that the owner hears first, and how many of these it has taken.
     shown: ArrayVec<u8, MOST_SHOWN>,
     taken: usize,
     // What the owner has given and taken, and how often this link has failed and ended.
@@ -97,8 +98,8 @@ impl<L: Link> UnlockedLink<L> {
         }
     }
 
-    /// It does nothing. Its clause says that, at every moment, what the owner gives and takes is what the link below
-    /// does, behind both beginnings.
+    /// It does nothing. Its clause says that, at every moment, the owner gives and takes the same as the link below,
+    /// after its own beginnings.
     pub(crate) fn stands_in(&self)
         ensures { StandsIn self.now }
     {

@@ -18,10 +18,10 @@ use web_link::{GatheringLink, WebLink};
 /// connection for dead.
 const SILENCE_SECONDS: u64 = 30;
 
-/// A browser's connection: the bytes of binary messages over a `ViewerTcpLink`, which go out as large as they can be.
-/// Where the browser has unlocked its port, its owner says and hears as at an open one.
-/// It takes bytes as that link does, but for the time of its hello only the bytes in messages count, and neither
-/// headers nor pings. Where the porter wakes it after a long silence, it sends a ping.
+/// A browser's connection: the bytes of binary messages over a `ViewerTcpLink`, which go out in messages as large as
+/// can be. Where the browser has unlocked its port, its owner says and hears as at an open one. It takes bytes as that
+/// link does, but for the time of its hello only the bytes in messages count, and neither headers nor pings. Where the
+/// porter wakes it after a long silence, it sends a ping.
 #[derive(Drop)]
 pub struct BrowserLink<R: Wait + Clock + Drop> {
     rt: R,
@@ -80,8 +80,8 @@ impl<R: Wait + Clock + Drop> BrowserLink<R> {
         })
     }
 
-    /// It does nothing. Its clause says that, at every moment, what the owner gives and takes is what the browser is
-    /// given and says in messages, behind the beginnings that stand for the lock.
+    /// It does nothing. Its clause says that, at every moment, the owner gives and takes the same as what the browser
+    /// is given and says in messages, after the beginnings that stand for the lock.
     pub fn stands_in(&self)
         ensures { StandsIn self.now }
     {

@@ -106,7 +106,7 @@ impl Whence {
         }
     }
 
-    /// It does nothing. Its clause says that no header was read of a newcomer of which none is wanted.
+    /// It does nothing. Its clause says that no header was read from a newcomer from which none is wanted.
     pub(crate) fn reads_no_other_header(&self)
         ensures { self.now.is_proxied ≡ false → self.now.front ≡ [] }
     {

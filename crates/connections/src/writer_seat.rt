@@ -28,8 +28,8 @@ impl WriterSeat {
     /// Whether the writer rests, and has looked since it was rung last. It rests where it has nothing to tell. So once
     /// nobody rings any more, all is told. No clause says so.
     pub fn is_quiet(&self) -> bool {
-        // A rest ends before the ring counts as answered, so a thread that sees the answer and then a rest sees a later
-        // rest.
+        // A rest ends before its ring is cleared. So where no ring is seen, and a rest is seen after that, the rest
+        // began after the last ring was cleared.
         !self.is_rung.load(Ordering::SeqCst) && self.is_resting.load(Ordering::SeqCst)
     }
 }

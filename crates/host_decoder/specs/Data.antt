@@ -23,7 +23,7 @@ use Rattle.host_decoder.specs.declared.body.Body.TheVariants as body
 abbrev pub putting : Rect → Reading (List ℕ) → Reading Paint
 putting area values = values >>= λ vs. Done (Put area vs)
 
--- A reader that stood for a reading was fed a piece, and answers how many bytes it used, or the fault at which it
+-- A reader that stood at `reading` was fed a piece, and answers how many bytes it used, or the fault at which it then
 -- stands.
 abbrev pub FedAs : Reading Paint → List ℕ → Result ℕ Fault → Type 0
 FedAs reading piece (Ok used) = (used ≡ taken reading piece) × (fault_of (after reading piece) ≡ None)
@@ -79,7 +79,8 @@ IsSource area begun source = Spells copy_source begun (source.x, source.y) × (s
 abbrev pub IsCodecFor : {P : Type 0} → (width height : P → ℕ) → Rect → P → Type 0
 IsCodecFor width height area p = (width p ≡ area.w) × (height p ≡ area.h)
 
--- The rectangle shows what was read so far, and what is read in the end shows a picture. Reading goes on as ahead says.
+-- A codec's reader is under way: the rectangle shows what was read so far, and reading goes on as `ahead` says, to a
+-- picture whose pixel values are put on the rectangle.
 pub record CodecStands {P S A : Type 0} (width height : P → ℕ) (picture : ℕ → ℕ → A → Canvas) (ahead : P → S → Reading A) (Stands : P → Canvas → S → Type 0) (area : Rect) (p : P) (canvas : Canvas) (reading : Reading Paint) : Type 0 where
   pub sofar : S
   pub width_is : width p ≡ area.w
@@ -125,15 +126,15 @@ IsBodyWanting (body.Hextile p) = hextile.IsWanting p
 abbrev pub IsWanting : DataProgress → Type 0
 IsWanting d = IsBodyWanting d.body
 
--- The painter shows what was painted before, over the screen at the update's start, and what of this rectangle was
--- painted so far, which for a CopyRect is nothing.
+-- The painter shows what was painted before, over the screen at the update's start, and whatever of this rectangle was
+-- painted so far; a CopyRect isn't painted before it is whole.
 abbrev pub BodyStands : ℕ → ℕ → Rect → Body → Canvas → List Paint → Painting → Reading Paint → Type 0
 BodyStands w h area (body.Raw p) start paints painter reading = IsPaintedAround start paints area painter × RawStands area p (part_of area (worked painter)) reading
 BodyStands w h area (body.Copy begun) start paints painter reading = IsPaintedOver start paints painter × CopyStands w h area begun reading
 BodyStands w h area (body.Rre p) start paints painter reading = IsPaintedAround start paints area painter × RreStands area p (part_of area (worked painter)) reading
 BodyStands w h area (body.Hextile p) start paints painter reading = IsPaintedAround start paints area painter × HextileStands area p (part_of area (worked painter)) reading
 
--- What is kept stands for data that go on so, after these paints.
+-- What is kept of a rectangle's data stands at `reading`, after these paints.
 abbrev pub DataStands : DataProgress → Canvas → List Paint → Painting → Reading Paint → Type 0
 DataStands d start paints painter reading = BodyStands d.width d.height d.area d.body start paints painter reading
 
@@ -149,8 +150,8 @@ pub record IsWhole (start : Canvas) (paints : List Paint) (painter : Painting) (
   pub reads : reading ≡ Done painted
   pub shows : IsPaintedOver start (paints ++ in_colours painted ∷ []) painter
 
--- A reader that stood for a reading, after these paints, was fed a piece. It answers how many bytes it used and whether
--- the rectangle is whole, or it answers the fault. Where the rectangle isn't whole, another byte is wanted.
+-- A reader that stood at `reading`, after these paints, was fed a piece. It answers how many bytes it used, and whether
+-- the rectangle is whole; or it answers the fault. Where the rectangle isn't whole, another byte is wanted.
 abbrev pub Fed : (Stands : Reading Paint → Type 0) → Canvas → List Paint → Painting → Reading Paint → List ℕ → Result (ℕ × Bool) Fault → Type 0
 Fed Stands start paints painter reading piece (Ok (used, true)) = IsWhole start paints painter (after reading piece) × (used ≡ taken reading piece)
 Fed Stands start paints painter reading piece (Ok (used, false)) = Stands (after reading piece) × (wants_more (after reading piece) ≡ true) × (used ≡ taken reading piece)

@@ -87,8 +87,8 @@ pub record InPart (w h : ℕ) (part : HostPart) (begun : List ℕ) (start : Canv
   pub missing : length begun < len_of part
   pub reads : r ≡ after (form_of w h sofar part) begun
 
--- A rectangle's data are being read, and painted as they come over the paints before it, and this many rectangles are
--- left after it.
+-- A rectangle's data are being read, and are painted over the paints before them as they come. After this rectangle
+-- `left` more follow.
 pub record InData (w h left : ℕ) (reader : DataProgress) (start : Canvas) (painter : Painting) (r : Reading ServerMessage) : Type 0 where
   pub sofar : List Paint
   pub reading : Reading Paint
@@ -103,8 +103,8 @@ pub record AtEnd (w h : ℕ) (event : HostEvent) (start : Canvas) (painter : Pai
   pub brings : Brings w h start event message
   pub shows : Holds (after_updates start (changes w h message)) painter []
 
--- The state, with its painter, stands for a message that began over this screen and goes on so. Where memory was
--- refused it stands for no message, since no message has that fault.
+-- The state, with its painter, stands at `r` in a message that began over the screen `start`. Where memory was refused
+-- it stands at no place of a message, since no message has that fault.
 abbrev pub Stands : ℕ → ℕ → HostState → Canvas → Painting → Reading ServerMessage → Type 0
 Stands w h (Fields fields) start painter r = InPart w h fields.0 fields.1 start painter r
 Stands w h (Pixels left reader) start painter r = InData w h left reader start painter r
@@ -113,14 +113,15 @@ Stands w h (Passing what left) start painter r = Holds start painter [] × (0 < 
 Stands w h (Whole event) start painter r = AtEnd w h event start painter r
 Stands w h (Failed fault) start painter r = r ≡ Faulty fault
 
--- Outside an update: the state stands for a message that goes on so with every painter that has painted nothing over
--- the screen.
+-- For a state outside an update: with every painter that has painted nothing over the screen, it stands at `r` in a
+-- message.
 abbrev pub StandsUnpainted : ℕ → ℕ → HostState → Reading ServerMessage → Type 0
 StandsUnpainted w h state r = (start : Canvas) (painter : Painting) → Holds start painter [] → Stands w h state start painter r
 
--- A decoder and its painter stand for a message of the host that goes on so. At its start the screen was this: what all
--- whole messages before it made. Before the message's first byte, and once the message is whole, the painter shows the
--- screen as it then is. Inside an update, or at a fault, it may show a part of the message.
+-- A decoder and its painter stand at `r` in a message of the host. When the message began, the screen was `start`,
+-- which is what all whole messages before had made of it. Before the message's first byte, and once the message is
+-- whole, the painter shows the screen as it is then. Inside an update, or at a fault, it may show a part of the
+-- message.
 abbrev pub Decodes : Decoding → Painting → Canvas → Reading ServerMessage → Type 0
 Decodes decoder painter start r = Stands decoder.width decoder.height decoder.state start painter r
 
@@ -159,7 +160,7 @@ pub record IsFor (decoder : Decoding) (painter : Painting) : Type 0 where
   pub width : painter.width ≡ decoder.width
   pub height : painter.height ≡ decoder.height
 
--- A message that went on as r was fed a piece. Where memory is refused, nothing is said of the message from then on.
+-- A decoder that stood at `r` was fed a piece. Where memory is refused, nothing is said of the message from then on.
 abbrev pub Feeds : Decoding → Painting → Canvas → Reading ServerMessage → List ℕ → Result ℕ Fault → Type 0
 Feeds decoder painter start r piece (Ok used) = Decodes decoder painter start (after r piece) × (used ≡ taken r piece) × (fault_of (after r piece) ≡ None)
 Feeds decoder painter start r piece (Err fault) =
@@ -202,12 +203,12 @@ pub record Stays (old new : Painting) (state : HostState) : Type 0 where
 abbrev pub GoesOn : Painting → Painting → HostState → Canvas → Reading ServerMessage → Type 0
 GoesOn old new state start r = (is_refused state ≡ true) ⊎ Stands old.width old.height state start new r
 
--- After the first n bytes reading goes on as next.
+-- Reading these bytes from `r` on is the same as reading all but the first n of them from `next` on.
 pub record IsBehind (r next : Reading ServerMessage) (bytes : List ℕ) (n : ℕ) : Type 0 where
   pub says : after r bytes ≡ after next (drop n bytes)
   pub count : fault_of next ≡ None → taken r bytes ≡ n + taken next (drop n bytes)
 
--- Reading goes on in that way once the first n bytes were used.
+-- The first n bytes were used, and after them reading goes on at `next`.
 pub record Uses (old new : Painting) (state : HostState) (start : Canvas) (r : Reading ServerMessage) (bytes : List ℕ) (n : ℕ) : Type 0 where
   pub next : Reading ServerMessage
   pub behind_ : IsBehind r next bytes n

@@ -27,8 +27,9 @@ impl<R: CodecReader> RectReader for R {
         R::begin(area.w, area.h, Format::host())
     }
 
-    /// `SubrectOutside` at the last byte of a subrectangle that leaves the rectangle, or its tile in Hextile;
-    /// `NoBackground` and `NoForeground` at the mask of a tile that lacks that colour, where none is carried.
+    /// It fails with `SubrectOutside` at the last byte of a subrectangle that leaves the rectangle or, in Hextile, its
+    /// tile. It fails with `NoBackground` or `NoForeground` at the mask of a tile that lacks that colour, where none is
+    /// carried over.
     fn feed(&mut self, painter: &mut Painter, piece: &[u8]) -> Result<usize, Fault> {
         read_piece(self, painter, piece)
     }

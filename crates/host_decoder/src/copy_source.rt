@@ -83,7 +83,7 @@ impl CopySource {
     /// Takes the next piece, up to the end of the source. Once all bytes of the source have come, the rectangle is
     /// copied. It answers how many bytes it used, and whether all have come.
     ///
-    /// `CopyOutside` at the last byte of a source that leaves the screen.
+    /// It fails with `CopyOutside` at the last byte of a source that leaves the screen.
     pub(crate) fn feed(
         &mut self,
         painter: &mut Painter,

@@ -48,7 +48,7 @@ impl Data {
     /// A reader to which no byte has come, of the data of the rectangle `area` in an encoding, on a screen of `width`
     /// by `height` pixels.
     ///
-    /// `UnknownEncoding` for any but Raw, CopyRect, RRE and Hextile. A new size has no data.
+    /// It fails with `UnknownEncoding` for any but Raw, CopyRect, RRE and Hextile. A new size has no data.
     pub(crate) fn new(width: u64, height: u64, area: Rect, encoding: u32) -> Result<Data, Fault>
         requires size { IsScreenSize width height }
         requires within { IsWithin area width height }
@@ -107,8 +107,8 @@ impl Data {
     /// Takes the next piece, up to the end of the rectangle, and paints what it says. It answers how many bytes it
     /// used, and whether the rectangle is whole. It takes no memory.
     ///
-    /// `SubrectOutside`, `NoBackground`, `NoForeground` and `CopyOutside` at the byte that shows it. The painter's
-    /// screen may then show a part of the rectangle, and is useless from then on.
+    /// It fails with `SubrectOutside`, `NoBackground`, `NoForeground` or `CopyOutside` at the byte that shows the
+    /// fault. The painter's screen may then show a part of the rectangle, and is useless from then on.
     pub(crate) fn feed(
         &mut self,
         painter: &mut Painter,

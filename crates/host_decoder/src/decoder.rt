@@ -66,13 +66,13 @@ impl HostDecoder {
         (self.width, self.height)
     }
 
-    /// Takes the next piece, up to the end of a whole message, and answers how many bytes it used. It uses none while
-    /// a message waits to be taken, and none after a fault, which it names again.
+    /// Takes the next piece, up to the end of a whole message, and answers how many bytes it used. It uses none while a
+    /// message waits to be taken, and none after a fault, which it names again.
     ///
-    /// `UnknownMessage`, `RectOutside`, `BadScreen` (for a new size that leaves the screen), `UnknownEncoding`,
-    /// `CopyOutside`, `SubrectOutside`, `NoBackground` and `NoForeground` at the byte that shows it; `Memory` where
-    /// memory is refused. Each is final. The painter's screen may then show a part of a message, and is useless from
-    /// then on.
+    /// It fails with `UnknownMessage`, `RectOutside`, `BadScreen` (for a new size that leaves the screen),
+    /// `UnknownEncoding`, `CopyOutside`, `SubrectOutside`, `NoBackground` or `NoForeground` at the byte that shows the
+    /// fault, and with `Memory` where memory is refused. Each is final. The painter's screen may then show a part of a
+    /// message, and is useless from then on.
     pub fn feed(&mut self, painter: &mut Painter, piece: &[u8]) -> Result<usize, Fault>
         requires { IsFor self.old painter.old }
         ensures size { (self.new.width ≡ self.old.width) × (self.new.height ≡ self.old.height)

@@ -39,8 +39,8 @@ impl HostScreen {
         Ok(HostScreen { decoder, painter })
     }
 
-    /// The same as `new`, for a host of this size that follows another, together with the patch that turns the screen of
-    /// the host before it black and tells the size. It fails where memory is refused (`Memory`).
+    /// A host's screen as by `new`, for a host of this size that follows another. With it comes the patch that turns
+    /// the screen of the host before it black, and tells the size. It fails where memory is refused (`Memory`).
     pub fn switched(
         alloc: Global,
         width: u64,

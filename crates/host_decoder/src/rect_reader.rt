@@ -69,7 +69,7 @@ pub(crate) trait RectReader {
 }
 
 /// Takes the next piece of a rectangle, up to its end, and paints what it says. It answers how many bytes it used, and
-/// whether the rectangle is whole, which is then one paint more; or it answers the fault.
+/// whether the rectangle is whole; a whole one is one more paint. Or it answers the fault.
 pub(crate) fn paint_pixels<R: RectReader>(
     reader: &mut R,
     painter: &mut Painter,

@@ -43,8 +43,8 @@ IsReadSoFar false w h screen decoder painter is_between link_old link_new old ne
 
 -- ---- what a loop over its steps keeps
 
--- Since the link stood as old and the publisher had the updates old, these bytes more were taken, and all was read and
--- put. The link was given nothing, and neither failed nor ended.
+-- Since the link was `link_old` and the publisher had the updates `old`, these further bytes were taken, and all of
+-- them were read and their updates put. The link was given nothing, and it neither failed nor ended.
 pub record IsRunning (w h : ℕ) (screen : Canvas) (decoder : Decoding) (painter : Painting) (is_between : Bool)
     (link_old link_now : LinkState) (old now : List Update) : Type 0 where
   pub stream : List ℕ

@@ -15,12 +15,11 @@ use Rattle.host_decoder.specs.Decoder.{Decodes, Decoding, host_message}
 use Rattle.host_decoder.specs.Updates.{updates}
 use Rattle.reflect_core.specs.Sequential.{Begins}
 
--- Decoder and painter stand for the beginning of a message, sent over this screen.
+-- The decoder and the painter are ready for the first byte of a message; the messages before it have made this screen.
 abbrev pub AwaitsMessage : Decoding → Painting → Canvas → Type 0
 AwaitsMessage decoder painter screen = Decodes decoder painter screen (host_message decoder.width decoder.height)
 
--- The host's bytes are in the middle of a message: after some whole messages there are bytes that begin one, and it
--- wants more.
+-- The host's bytes end inside a message: behind some whole messages there are bytes that begin one, which wants more.
 pub record IsInside (w h : ℕ) (stream : List ℕ) : Type 0 where
   pub whole : List ℕ
   pub begun : List ℕ
@@ -36,14 +35,14 @@ EndsAt false w h stream = IsInside w h stream
 
 -- ---- how it ends
 
--- Updates were put after the updates old that a publisher had. Sent over this screen, they come to the same as those of
--- the host's bytes, one by one.
+-- The publisher had the updates `old`, and further updates were put after them. Over this screen they have the same
+-- effect, one by one, as the updates of the host's bytes.
 pub record ArePut (w h : ℕ) (screen : Canvas) (stream : List ℕ) (old new : List Update) : Type 0 where
   pub put : List Update
   pub added : new ≡ old ++ put
   pub same : AreSameUpdates w h screen (updates w h stream) put
 
--- Or the first of these, where memory was refused or there were no more numbers.
+-- As above, but only the first of those updates were put, since memory was refused or there were no more numbers.
 pub record AreCut (w h : ℕ) (screen : Canvas) (fault : Fault) (stream : List ℕ) (old new : List Update) : Type 0 where
   pub put : List Update
   pub added : new ≡ old ++ put
@@ -57,7 +56,7 @@ pub record AtFault (w h : ℕ) (screen : Canvas) (fault : Fault) (stream : List 
   pub put : ArePut w h screen stream old new
   pub rest : rest (host_message w h) stream ≡ Faulty fault
 
--- A piece was read to its end unless this came between.
+-- Why a piece wasn't read to its end.
 abbrev pub Stops : ℕ → ℕ → Canvas → Fault → (stream : List ℕ) → (old new : List Update) → Type 0
 Stops w h screen fault stream old new = AreCut w h screen fault stream old new ⊎ AtFault w h screen fault stream old new
 
@@ -103,7 +102,8 @@ pub record CanRead (decoder : Decoding) (painter : Painting) : Type 0 where
   pub reads : Decodes decoder painter screen reading
   pub wants : wants_more reading ≡ true
 
--- Decoder and painter stand after the host's bytes so far, sent over this screen, all of whose updates were put.
+-- The decoder and the painter have read the host's bytes so far, which begin over this screen, and all updates of these
+-- bytes were put.
 pub record HasRead (w h : ℕ) (screen : Canvas) (decoder : Decoding) (painter : Painting) (is_between : Bool)
     (stream : List ℕ) (old new : List Update) : Type 0 where
   pub reads : Decodes decoder painter (after_updates screen (updates w h stream)) (rest (host_message w h) stream)

@@ -16,7 +16,7 @@ use link::{Link, Took};
 use painter::Painter;
 use reflect_core::Puts;
 
-/// What reading answers if this answer of the link ends it; `None` if it goes on.
+/// What the whole reading answers where this answer of the link ends it; `None` where the reading goes on.
 fn outcome(took: Took, is_between: bool) -> Option<Result<(), Fault>>
     ensures { result ≡ outcome took is_between }
 {

@@ -37,7 +37,7 @@ impl<L, P> Drop for HostBeginning<L, P> {
 }
 
 impl<L, P> HostBeginning<L, P> {
-    /// The beginning of a reading of these.
+    /// The beginning of a reading with this link, this decoder, this painter and this publisher.
     pub fn of(link: &L, decoder: &HostDecoder, painter: &Painter, publisher: &P) -> Self
         ensures link { result.link.value ≡ link.now }
         ensures decoder { result.decoder.value ≡ decoder.now }
@@ -55,9 +55,9 @@ impl<L, P> HostBeginning<L, P> {
 
 /// A host's link, what decodes and paints its bytes, and the publisher to which its updates are put.
 ///
-/// While a reading has them nobody else does, and a reading does with them only what its step does. The step takes no
-/// handle, so it is proved to come to its end, as far as the link and the publisher do, and there `lawful` holds again.
-/// So whatever calls the step, however often and for however long, all that was put is as `so_far` says.
+/// Only the reading's own step uses these while the reading has them. The step takes no handle, so it is proved to end
+/// where the calls of the link and the publisher end, and `lawful` holds at its end. So `so_far` is true however often
+/// the step was called.
 #[derive(Drop)]
 pub struct Reading<'a, L: Link, P: Puts> {
     link: &'a mut L,
@@ -138,8 +138,8 @@ impl<'a, L: Link, P: Puts> Reading<'a, L, P> {
             (P.updates self.now.publisher.now)) ∥₁ }
     {}
 
-    /// Takes the bytes that have come, and puts the update of each message that ends in them. It answers what reading
-    /// answers if it ends here, or `None`.
+    /// Takes the bytes that have come, and puts the update of each message that ends in them. Where the reading ends
+    /// here, it answers how; otherwise it answers `None`.
     pub(crate) fn hear(&mut self) -> Option<Result<(), Fault>>
         requires on { self.old.is_over ≡ false }
         requires reads { CanRead self.old.decoder.now self.old.painter.now }

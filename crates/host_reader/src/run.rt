@@ -19,8 +19,8 @@ use std::sync::Wait;
 /// How many bytes are taken from the link at a time, at most.
 const PIECE: usize = 65536;
 
-/// What reads on, as `read_on` does: it has a reading take the host's bytes until the link ends or a fault comes. Of
-/// what matters it is lent the reading alone, so it can call the reading's step, and nothing else.
+/// A loop that calls a reading's step until the link ends or a fault comes, as `read_on` does. Of what matters it is
+/// lent the reading alone, so it can call the reading's step, and nothing else.
 pub trait ReadsOn<L: Link, P: Puts> {
     /// Reads on until the link ends or a fault comes.
     fn read_on(&self, reading: &mut Reading<'_, L, P>) -> Result<(), Fault>
@@ -45,8 +45,8 @@ pub trait ReadsOn<L: Link, P: Puts> {
         ensures first { reading.new.first ≡ reading.old.first };
 }
 
-/// Has the reading take the host's bytes, piece by piece, until the link ends or a fault comes. Of what matters it is
-/// lent the reading alone, so it can call the reading's step, and nothing else.
+/// Takes and reads the host's bytes, piece by piece, until the link ends or a fault comes. Of what matters it is lent
+/// the reading alone, so it can call the reading's step, and nothing else.
 pub fn read_on<L: Link, P: Puts, R: Wait>(
     rt: &R,
     reading: &mut Reading<'_, L, P>,
@@ -78,7 +78,7 @@ pub fn read_on<L: Link, P: Puts, R: Wait>(
     unreachable!()
 }
 
-/// The same as `run_host`, with `by` in place of a handle: no other call in it waits, so it has none itself.
+/// The same as `run_host`, with `by` in place of a handle: of the calls made here `by` alone may wait.
 pub fn read_host<L: Link, P: Puts, F: ReadsOn<L, P>>(
     by: &F,
     alloc: Global,
@@ -129,14 +129,16 @@ impl<'a, L: Link, P: Puts, R: Wait> ReadsOn<L, P> for Waiting<'a, R> {
 }
 
 /// Takes the host's bytes from a link that has done its handshake, and puts the update of each whole message, in order,
-/// until the link ends. It is `Ok` where that is between two messages. The room for the bytes is taken once, at the
-/// start.
+/// until the link ends. It is `Ok` where the link ends between two messages. The room for the bytes is taken once, at
+/// the start.
 ///
-/// `LinkEnded` where the link ends inside a message, and `LinkFailed` where it fails; `UnknownMessage`, `RectOutside`,
-/// `BadScreen`, `UnknownEncoding`, `SubrectOutside`, `NoBackground`, `NoForeground` or `CopyOutside` at the byte that
-/// shows it: all updates of the messages before that are put. `Memory`, and `NumbersOut` where the publisher has no
-/// more numbers: the updates that were put are the first ones. In each case what was put stays. The updates put come to
-/// the same as those of the bytes, one by one, over the screen that the decoder and the painter began with.
+/// It fails with `LinkEnded` where the link ends inside a message, and with `LinkFailed` where the link fails. Where
+/// the bytes are at fault, it fails at the byte that shows this, with `UnknownMessage`, `RectOutside`, `BadScreen`,
+/// `UnknownEncoding`, `SubrectOutside`, `NoBackground`, `NoForeground` or `CopyOutside`; then the updates of all
+/// messages before that byte are put. It fails with `Memory` where memory is refused, and with `NumbersOut` where the
+/// publisher has no more numbers; then only the first updates are put. What was put stays in each case. Over the screen
+/// that the decoder and the painter began with, the updates that were put have the same effect, one by one, as those of
+/// the bytes.
 pub fn run_host<L: Link, P: Puts, R: Wait>(
     rt: &R,
     alloc: Global,

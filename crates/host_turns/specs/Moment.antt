@@ -11,8 +11,9 @@ pub record IsFirst (came joined : Coming) (links : List LinkState) (old now : Li
   pub none : links ≡ []
   pub unput : now ≡ old
 
--- A further host is to be read: the hosts before it had their turns, and a host is taken after the last answer. It came
--- so, was joined within the room, and then the switch was put.
+-- A host after the first is to be read. The hosts before it had their turns, the last of which ended so that another
+-- host is taken. This one came over a link as `comes` says, was joined within the room, and then the switch to it was
+-- put.
 pub record IsFurther (w h : ℕ) (password : Option (List ℕ)) (comes : Coming → Type 0) (first joined : Coming)
     (links : List LinkState) (old now : List Update) : Type 0 where
   pub last : Ending
@@ -22,8 +23,8 @@ pub record IsFurther (w h : ℕ) (password : Option (List ℕ)) (comes : Coming 
   pub met : (link : LinkState) × comes (came_over joined.has_called link)
       × IsMet w h password link joined.link shown now
 
--- A run began with a first host that came so, and with the updates old. Now a host is joined that came as it did, and
--- its link stands so; the links are those of the hosts that were read before it.
+-- A run began with the host `first` and the updates `old`. Now the host `joined` is to be read, which is the first one
+-- or a later one. `links` are the links of the hosts that were read before it.
 abbrev pub IsBegun : ℕ → ℕ → Option (List ℕ) → (Coming → Type 0) → (first joined : Coming) → List LinkState
     → (old now : List Update) → Type 0
 IsBegun w h password comes first joined links old now =

@@ -14,14 +14,14 @@ use Rattle.host_turns.specs.declared.ending.Ending.{Ending}
 
 -- ---- one host
 
--- A host's link was read over the opening screen of w by h, to the end that the answer tells. The updates of its
--- messages were put, after the updates old.
+-- A host's link was read over the opening screen of w by h, and reading it ended with this answer. The updates of its
+-- messages were put after the updates `old`.
 abbrev pub IsReadOut : ℕ → ℕ → Result (Unit {0}) Fault → (link_old link_new : LinkState)
     → (old new : List Update) → Type 0
 IsReadOut w h (Ok done) link_old link_new old new = EndsBetween w h opening link_old link_new old new
 IsReadOut w h (Err fault) link_old link_new old new = EndsWith w h opening fault link_old link_new old new
 
--- And the host was given nothing over that link.
+-- The same, and the host was given nothing over that link.
 pub record IsRead (w h : ℕ) (answer : Result (Unit {0}) Fault) (link_old link_new : LinkState)
     (old new : List Update) : Type 0 where
   pub out : IsReadOut w h answer link_old link_new old new
@@ -33,8 +33,8 @@ pub record IsSwitched (w h : ℕ) (host : Joined) (old new : List Update) : Type
   pub added : new ≡ old ++ put ∷ []
   pub same : (start : Canvas) → AreSameUpdates w h start (switch host.w host.h ∷ []) (put ∷ [])
 
--- A host was joined with this password over a link that was so before and after, and its screen fits into the room of w
--- by h.
+-- A host was joined with this password, by which its link went from the old state to the new one, and its screen fits
+-- into the room of w by h.
 pub record JoinsWithin (w h : ℕ) (password : Option (List ℕ)) (link_old link_new : LinkState) : Type 0 where
   pub host : Joined
   pub joins : Joins password link_old link_new host
@@ -59,12 +59,13 @@ IsUnfit w h password fault link_old link_new =
     FailsAs password fault link_old link_new
     ⊎ (JoinsElsewhere w h password link_old link_new × (fault ≡ BadScreen))
 
--- After this many updates there is want: memory that a host needs is refused, or there is no number for its switch.
+-- After this many updates something is wanting: memory that a host needs is refused, or there is no number for its
+-- switch.
 abbrev pub IsWant : ℕ → Fault → Type 0
 IsWant count fault = (fault ≡ Memory) ⊎ ((fault ≡ NumbersOut) × (count ≡ 2 ^ 62))
 
--- Why a host that comes over this link is missed, after this many updates: it isn't joined within the room, or it is
--- joined, and there is want.
+-- Why a host that comes over this link, after this many updates, is missed: it isn't joined within the room; or it is
+-- joined, but memory or a number is wanting.
 abbrev pub IsMissed : ℕ → ℕ → Option (List ℕ) → (count : ℕ) → Fault → LinkState → Type 0
 IsMissed w h password count fault link =
     (left : LinkState)
@@ -72,10 +73,11 @@ IsMissed w h password count fault link =
 
 -- ---- one host after another
 
--- Whether the next host is taken after this answer of reading or of joining one: where the host ended, its link ended
--- or failed, or the host has another version, refuses, offers no security type that can be chosen, reports a failed
--- handshake, or has a screen that doesn't fit, as it is joined or later. After what RFB doesn't have it is taken where
--- the host had called, and never where the run itself lacks memory, numbers, a place or its screen (own).
+-- Whether the next host is taken after reading or joining one has ended with this answer. It is where the host or its
+-- link has ended, or the link failed; where the host has another version, refuses, offers no security type that can be
+-- chosen or reports a failed handshake; and where its screen, or a new size of it, doesn't fit. Where a host sends what
+-- RFB doesn't have, the next one is taken if that host had called. Where the run itself lacks memory, numbers, a place
+-- or its screen, none is taken (own).
 abbrev pub goes_on_after : (has_called : Bool) → Result (Unit {0}) Fault → Bool
 goes_on_after has_called (Ok done) = true
 goes_on_after has_called (Err BadVersion) = true
@@ -103,8 +105,8 @@ pub record Coming : Type 0 where
 abbrev pub came_over : Bool → LinkState → Coming
 came_over has_called link = record { has_called = has_called; link = link }
 
--- The stay of a host that was read: how it came, once it was joined; the answer; its link as it was left; and all
--- updates that were put by then.
+-- The stay of a host that was read: with what answer it ended, whether the host had called, its link after the join and
+-- as it was left, and all updates that were put by the end.
 pub record Stay : Type 0 where
   pub answer : Result (Unit {0}) Fault
   pub has_called : Bool
@@ -125,7 +127,7 @@ abbrev pub ending_of : Turn → Ending
 ending_of (Read stay) = end_of stay
 ending_of (Missed has_called fault) = record { answer = Err fault; has_called = has_called }
 
--- The links of the hosts that were read, and the updates that were put, with those of one turn more.
+-- The links of the hosts that were read, with that of one more turn; and all updates, with those of one more turn.
 abbrev pub links_with : List LinkState → Turn → List LinkState
 links_with links (Read stay) = links ++ stay.left ∷ []
 links_with links (Missed has_called fault) = links
@@ -134,8 +136,8 @@ abbrev pub put_with : List Update → Turn → List Update
 put_with old (Read stay) = stay.put
 put_with old (Missed has_called fault) = old
 
--- A host that comes so has this turn, after the updates so far. Either it is joined within the room, then the switch to
--- it is put, and then it is read over a black screen; or it is missed, and nothing is put.
+-- A host came as `comes` says, after the updates `old`, and had this turn. Either it was joined within the room, then
+-- the switch to it was put, and then it was read over a black screen; or it was missed, and nothing was put.
 abbrev pub IsTurn : ℕ → ℕ → Option (List ℕ) → (Coming → Type 0) → List Update → Turn → Type 0
 IsTurn w h password comes old (Read stay) =
     (link : LinkState) × comes (came_over stay.has_called link)
@@ -159,15 +161,17 @@ abbrev pub put_by : Stay → List Turn → List Update
 put_by first [] = first.put
 put_by first (t ∷ ts) = put_with (put_by first ts) t
 
--- These are turns of hosts that come so. A host is taken only where goes_on is true of the end before it.
+-- These are turns of hosts that came as `comes` says. Each host was taken only where goes_on is true of the end before
+-- it.
 abbrev pub AreTurns : ℕ → ℕ → Option (List ℕ) → (Coming → Type 0) → Stay → List Turn → Type 0
 AreTurns w h password comes first [] = ⊤
 AreTurns w h password comes first (t ∷ ts) =
     AreTurns w h password comes first ts × (goes_on (last_ending first ts) ≡ true)
     × IsTurn w h password comes (put_by first ts) t
 
--- A first host was read that had come so, over its link after its join, and then others in turn; the run ended so.
--- These links, of the hosts that were read, are handed back.
+-- The first host had come as `came` says, where its link stands as it did after its join. It was read over that link,
+-- and further hosts had their turns after it. The last of all ended with `last_end`. The links of the hosts that were
+-- read are handed back, and these updates were put in all.
 pub record HasRun (w h : ℕ) (password : Option (List ℕ)) (comes : Coming → Type 0) (last_end : Ending)
     (came : Coming) (links : List LinkState) (old new : List Update) : Type 0 where
   pub first : Stay
@@ -180,11 +184,12 @@ pub record HasRun (w h : ℕ) (password : Option (List ℕ)) (comes : Coming →
   pub handed : links ≡ links_of first turns
   pub put : new ≡ put_by first turns
 
--- A host came so: this is the state of the link of an end that came.
+-- A host came in this way: an end of its connection came, from a host that had called or hadn't, and the end's link is
+-- in this state.
 abbrev pub IsComing : {L : Type 0} → (L → LinkState) → (Bool → L → Type 0) → Coming → Type 0
 IsComing {L} state came coming = (end : L) × came coming.has_called end × (coming.link ≡ state end)
 
--- Why a run ends: no host is taken after its last end of one, or no host is left.
+-- Why a run ends: after the end of its last host no further one is taken, or no host is left.
 abbrev pub IsOver : {H : Type 0} → (H → Type 0) → H → Ending → Type 0
 IsOver {H} are_out hosts last_end = (goes_on last_end ≡ false) ⊎ are_out hosts
 

@@ -14,7 +14,7 @@ pub struct Ending {
     pub has_called: bool,
 }
 
-/// Whether the next host is taken after this end of one.
+/// Whether the next host is taken after this end of a host.
 pub(crate) fn goes_on(ending: &Ending) -> bool
     ensures { result ≡ goes_on ending.now }
 {

@@ -32,7 +32,7 @@ impl<L: Link> SealedEnd<L> {
     }
 }
 
-/// The end of a connection on which a host is told, over which nothing was given yet, and the number of that host.
+/// The end of a connection over which the host of this number is told. Nothing was given over it yet.
 #[derive(Drop)]
 pub struct NumberedLink<L: Link> {
     pub link: L,
@@ -54,8 +54,8 @@ struct Post<L: Link> {
     is_over: bool,
 }
 
-/// Hands each host from the thread that reads it to the one that tells it. Hosts are numbered by how many were left
-/// before them.
+/// Hands each host from the thread that reads it to the one that tells it. A host's number is how many hosts were left
+/// before it.
 #[derive(Drop)]
 pub struct Handover<L: Link, W: Alarm + Drop> {
     post: Mutex<Post<L>>,

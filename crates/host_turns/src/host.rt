@@ -128,7 +128,8 @@ fn make_ready<L>(
     HostScreen::switched(run_screen.alloc, run_screen.width, run_screen.height, size)
 }
 
-/// Joins a host within the room, and then puts the switch to it. The link has room among those that were read.
+/// Joins a host within the room, and then puts the switch to it. Room for its link is taken, beside the links of the
+/// hosts that were read.
 pub(crate) fn meet<L: Link, H: Hosts<L>, P: Puts, F: JoinsOn<L>>(
     by: &F,
     run_screen: &RunScreen,

@@ -15,7 +15,7 @@ use rfb_wire::Joined;
 use run_traits::Alarm;
 use std::sync::Wait;
 
-/// The loops over one host, by a handle that may wait. One is lent the host's join, the other the host's reading.
+/// The two loops over one host, which call the steps of its join and of its reading, by a handle that may wait.
 #[derive(Drop)]
 struct Waiting<'a, R: Wait> {
     rt: &'a R,
@@ -34,14 +34,15 @@ impl<'a, L: Link, P: Puts, R: Wait> ReadsOn<L, P> for Waiting<'a, R> {
 }
 
 /// Reads the first host and then the others, in turn, and adds the links of those that were read. While a host is read,
-/// it is handed over to the thread that tells it. It is given the run, which it can't take apart: all that it can do is
-/// to call the steps of the run's stages, and to wait.
+/// it is handed over to the thread that tells it. This function is given the run, which it can't take apart: it can
+/// call the steps of the run's stages, and wait, and nothing else.
 ///
-/// Where the first host has its turn again, the call ends only with an end of a host after which no other is taken.
+/// Where the first host has its turn again, the call returns only where a host has ended in such a way that no other is
+/// taken.
 ///
-/// The run's last answer is that of the last host, which had called or not: the fault of reading or of joining it,
-/// `BadScreen` where its screen doesn't fit into the room, `Memory` where memory that it needs is refused, and
-/// `NumbersOut` where there is no number for its switch.
+/// The run's last answer is that of its last host: the fault of reading or of joining it, `BadScreen` where its screen
+/// doesn't fit into the room, `Memory` where memory that it needs is refused, and `NumbersOut` where there is no number
+/// for its switch. It says, too, whether that host had called.
 pub fn read_all<'a, L, H, P, W, T, R>(
     rt: &R,
     run: JoinedRun<'a, L, H, P, W, T>,

@@ -1,5 +1,5 @@
-//! The stages of a run of hosts: a host is joined, no host is there, the next one has come, or the run is over. What a
-//! run could do harm with is in their hands, and their steps take no handle.
+//! The stages of a run of hosts: a host is joined, no host is there, the next one has come, or the run is over. A stage
+//! owns all that a run could do harm with, and its steps take no handle.
 
 ghost use Rattle.std.specs.Prelude.{◌≡◌, ◌<◌, true, None, Err, [], ◌∷◌, ◌++◌, length, map, vec_capacity, vec_len, IfErr, IfOk};
 ghost use Rattle.fault.specs.declared.kinds.Fault.{Fault};
@@ -59,12 +59,12 @@ impl<L, H, P> RunBeginning<L, H, P> {
     }
 }
 
-/// A run whose host is joined and isn't read yet: the end of its connection that is read, what reads it, where further
-/// hosts come from, the links of the hosts before it, and the publisher to which updates are put.
+/// A run whose host is joined and isn't read yet. It has the end of the host's connection that is read, what reads it,
+/// where further hosts come from, the links of the hosts before, and the publisher to which updates are put.
 ///
-/// While a run has them nobody else does. No step takes a handle, so each is proved to come to its end, as far as the
-/// calls do that it makes, and there `lawful` holds again. A `T` is the key that takes a run apart: who is given a run
-/// can't make one.
+/// Only a run's own steps use these while the run has them. No step takes a handle, so each is proved to end where the
+/// calls that it makes end, and `lawful` holds at its end. A `T` is the key that takes a run apart: whoever is given a
+/// run can't make one.
 pub struct JoinedRun<'a, L: Link, H: Hosts<L>, P: Puts, W: Alarm + Drop, T: Drop> {
     run_screen: &'a RunScreen,
     handover: &'a Handover<L, W>,
@@ -91,7 +91,7 @@ pub struct JoinedRun<'a, L: Link, H: Hosts<L>, P: Puts, W: Alarm + Drop, T: Drop
         (P.updates first.now.publisher.value) (P.updates publisher) ∥₁ },
 }
 
-/// A run between two hosts. Its last end is how reading the last host has ended, or joining it.
+/// A run between two hosts. `last` is how reading the last host ended, or how joining it did.
 pub struct IdleRun<'a, L: Link, H: Hosts<L>, P: Puts, W: Alarm + Drop, T: Drop> {
     run_screen: &'a RunScreen,
     handover: &'a Handover<L, W>,
@@ -133,7 +133,7 @@ pub struct MetRun<'a, L: Link, H: Hosts<L>, P: Puts, W: Alarm + Drop, T: Drop> {
         (map L.state links.items) (P.updates first.now.publisher.value) (P.updates publisher)) ∥₁ },
 }
 
-/// A run that is over: no host is taken after its last end of one, or none is left.
+/// A run that is over: after the end of its last host no further one is taken, or no host is left.
 pub struct EndedRun<'a, L: Link, H: Hosts<L>, P: Puts, W: Alarm + Drop, T: Drop> {
     run_screen: &'a RunScreen,
     handover: &'a Handover<L, W>,
@@ -191,8 +191,8 @@ impl<'a, L: Link, H: Hosts<L>, P: Puts, W: Alarm + Drop, T: Drop> JoinedRun<'a, 
     }
 
     /// It does nothing. Its clause is true at every moment from a host's join until its reading begins: it says what
-    /// the run was before, how the host was joined, and that nothing but its switch was put since. From then on
-    /// `host_reader::Reading::so_far` says what is true.
+    /// the run was before, how the host was joined, and that since then nothing was put but the switch to it. From then
+    /// on `host_reader::Reading::so_far` says what is true.
     pub fn so_far(&self)
         ensures { ∥ IsBegun self.now.run_screen.now.width self.now.run_screen.now.height
             self.now.run_screen.now.password (IsComing L.state H.came)
@@ -260,8 +260,8 @@ impl<'a, L: Link, H: Hosts<L>, P: Puts, W: Alarm + Drop, T: Drop> JoinedRun<'a, 
 
 impl<'a, L: Link, H: Hosts<L>, P: Puts, W: Alarm + Drop, T: Drop> IdleRun<'a, L, H, P, W, T> {
     /// It does nothing. Its clause is true at every moment between two hosts. The published updates are those of the
-    /// bytes that were taken of the hosts, in turn, with a switch before each host but the first. After its join no
-    /// host was given anything over the end that is read. The links so far are those of the hosts that were read.
+    /// bytes that were taken from the hosts, in turn, with a switch before each host but the first. Over the end that
+    /// is read no host was given anything after its join. The links so far are those of the hosts that were read.
     pub fn so_far(&self)
         ensures { ∥ HasRun self.now.run_screen.now.width self.now.run_screen.now.height
             self.now.run_screen.now.password (IsComing L.state H.came) self.now.last

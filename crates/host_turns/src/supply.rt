@@ -22,15 +22,16 @@ pub struct HostEnds<L: Link> {
 pub trait Hosts<L: Link>: Drop {
     ghost use Rattle.std.specs.Prelude.{ℕ, Bool, Option};
 
-    /// The fact that this is the end to be read of the connection of a host, which has called or not, just as it came.
-    /// Only `next` says so, and each supply says what it means.
+    /// The fact that this end came, just as it is, with the connection of a host, which had called or not; it is the
+    /// end to be read. Only `next` says so, and each supply says what it means.
     ghost came: { (has_called : Bool) → L → Type 0 };
 
     /// The fact that no host is left. Only `next` says so, and each supply says what it means.
     ghost are_out: { Self → Type 0 };
 
-    /// How many seconds after the last host the first has its turn again, or `None` where it never has. No call changes
-    /// this. Where the first host has its turn again there is always a next host.
+    /// The number of seconds after which the first host has its turn again, once the last has had its own; `None` where
+    /// it never has one again. No call changes this. Where the first host has its turn again there is always a next
+    /// host.
     ghost again: { Self → Option ℕ };
 
     /// The connection of the next host, or `None` where no host is left. It may wait without an end.
@@ -46,8 +47,8 @@ pub trait Hosts<L: Link>: Drop {
         ensures link { L.state reader.new ≡ L.state reader.old }
         ensures again { again self.new ≡ again self.old };
 
-    /// Is told of each host, the first one included, that was read and how it ended, or that it wasn't joined, or that
-    /// its screen doesn't fit into the room (`BadScreen`).
+    /// Is told of each host once it is left, and why. A host, the first one included, may have been read to its end, it
+    /// may not have been joined, or its screen may not have fitted into the room (`BadScreen`).
     fn left(&mut self, reader: &mut L, why: Result<(), Fault>)
         ensures link { L.state reader.new ≡ L.state reader.old }
         ensures again { again self.new ≡ again self.old };

@@ -10,7 +10,7 @@ use Rattle.host_writer.specs.Writing.{Did, IsJudged, Looked, all_taken, last_sai
 
 -- ---- what a telling keeps
 
--- TellsSoFar, where the speech is what is said last, and this number the greatest reply of a look.
+-- As in TellsSoFar, where the speech has what the writer says last, and `asked` is the greatest reply of its looks.
 pub record IsTelling {S : Type 0} (looks : S → ℕ → S → Type 0) (source_old source_new : S)
     (taken_old taken_new : List Message) (strokes_old strokes_new : StrokesKept) (w h asked : ℕ)
     (speech : Speech) (old new : LinkState) : Type 0 where
@@ -28,7 +28,7 @@ pub record IsTelling {S : Type 0} (looks : S → ℕ → S → Type 0) (source_o
 
 -- ---- its steps
 
--- An input was taken, and its spelling was begun, or the empty one where it doesn't pass.
+-- An input was taken, and from now on its spelling is to be said; nothing is to be said where the input doesn't pass.
 pub record TakesInput (taken_old taken_new : List Message) (strokes_old strokes_new : StrokesKept)
     (speech : Speech) : Type 0 where
   pub message : Message
@@ -37,7 +37,7 @@ pub record TakesInput (taken_old taken_new : List Message) (strokes_old strokes_
   pub judged : IsJudged strokes_old strokes_new message bytes
   pub begins : speech ≡ begun bytes
 
--- That was done, or there was no input.
+-- An input was taken as in TakesInput (true), or there was none.
 abbrev pub Takes : Bool → (taken_old taken_new : List Message) → (strokes_old strokes_new : StrokesKept)
     → (speech_old speech_new : Speech) → Type 0
 Takes true taken_old taken_new strokes_old strokes_new speech_old speech_new =
@@ -45,7 +45,8 @@ Takes true taken_old taken_new strokes_old strokes_new speech_old speech_new =
 Takes false taken_old taken_new strokes_old strokes_new speech_old speech_new =
     (taken_new ≡ taken_old) × (strokes_new ≡ strokes_old) × (speech_new ≡ speech_old)
 
--- The source was looked at, and the request was begun where the look has risen, or else the empty spelling.
+-- The source was looked at. From now on the request is to be said where the reply is above `asked_old`, and nothing
+-- otherwise.
 pub record LooksOnce {S : Type 0} (looks : S → ℕ → S → Type 0) (request : List ℕ) (source_old source_new : S)
     (asked_old asked_new : ℕ) (speech : Speech) : Type 0 where
   pub number : ℕ

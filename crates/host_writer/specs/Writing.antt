@@ -1,5 +1,5 @@
--- What the host is told once it is joined: the inputs taken of the relay that don't break into another place's stroke,
--- and a request for each rise of a look (RFC 6143, 7.5.3 to 7.5.6; own).
+-- What the host is told once it is joined: those inputs taken from the relay that don't break into another place's
+-- stroke, and a request whenever the reply of a look has risen (RFC 6143, 7.5.3 to 7.5.6; own).
 use Rattle.std.specs.Prelude.{◌≡◌, ℕ, ◌≤◌, ◌<◌, ◌⊎◌, max, nat_lt, if◌then◌else◌, Bool, true, List, [], ◌∷◌, ◌++◌, length, map, Result, Ok, Err}
 use Rattle.fault.specs.declared.kinds.Fault.{Fault}
 use Rattle.fault.specs.declared.kinds.Fault.TheVariants.{LinkEnded, LinkFailed}
@@ -16,7 +16,7 @@ use Rattle.input_relay.specs.declared.queue.Message.{Message}
 abbrev pub whole_request : ℕ → ℕ → List ℕ
 whole_request w h = request_bytes true (record { x = 0; y = 0; w = w; h = h })
 
--- What a writer does: it takes an input of the relay; it looks at its source, with the reply.
+-- What a writer does: it takes an input from the relay, or it looks at its source and gets this reply.
 pub data Did : Type 0 where
   Took : Message → Did
   Saw : (number : ℕ) → Did
@@ -33,11 +33,11 @@ taken_in (Saw number ∷ ds) = taken_in ds
 abbrev pub taken_from : Message → Taken
 taken_from message = input_from message.from (input_in message.input)
 
--- All that was taken, where these were taken before, perhaps for another host.
+-- All inputs taken in a run: those taken before, perhaps for another host, and then those of these acts.
 abbrev pub all_taken : List Taken → List Did → List Taken
 all_taken before ds = before ++ map taken_from (taken_in ds)
 
--- An input passes to the host after all that was taken before it.
+-- Whether an input passes to the host, given all inputs that were taken before it.
 abbrev pub is_told : List Taken → Message → List Did → Bool
 is_told before message ds = passes_after (unbroken (all_taken before ds)) (taken_from message)
 
@@ -53,8 +53,8 @@ risen_to [] = 0
 risen_to (Took message ∷ ds) = risen_to ds
 risen_to (Saw number ∷ ds) = max (risen_to ds) number
 
--- What it says for one thing that it did, after all that it did before: an input where that passes, and a request where
--- its look has risen.
+-- What the writer says for one act, given all acts before it: an input where it passes, and a request where the reply
+-- of the look has risen.
 abbrev pub says : List Taken → ℕ → ℕ → Did → List Did → List ℕ
 says before w h (Took message) ds = if is_told before message ds then input_bytes (input_in message.input) else []
 says before w h (Saw number) ds = if nat_lt (risen_to ds) number then whole_request w h else []
@@ -69,7 +69,7 @@ abbrev pub last_said : List Taken → ℕ → ℕ → List Did → List ℕ
 last_said before w h [] = []
 last_said before w h (d ∷ ds) = says before w h d ds
 
--- Its looks are all that was done to the source, each with the source's own reply.
+-- Nothing but these looks was done to the source, and each reply is the source's own.
 abbrev pub Looked : {S : Type 0} → (S → ℕ → S → Type 0) → S → List Did → S → Type 0
 Looked {S} looks old [] new = new ≡ old
 Looked {S} looks old (Took message ∷ ds) new = Looked looks old ds new
@@ -96,9 +96,9 @@ answer_at halt.Before = Ok tt
 answer_at halt.Inside = Err LinkEnded
 answer_at halt.Failed = Err LinkFailed
 
--- So it is at every moment: the host was given all that the writer says, but for the end of what it said last. Where
--- the strokes stood for the inputs taken before, they stand for all that were taken, and they decide what is said. No
--- byte was taken of the link.
+-- What is true at every moment. The host was given all that the writer says, except perhaps the end of what it said
+-- last. Where the strokes stood for the inputs taken before this host, they stand now for all inputs taken, and they
+-- decide what is said. No byte was taken from the link.
 pub record TellsSoFar {S : Type 0} (looks : S → ℕ → S → Type 0) (source_old source_new : S)
     (taken_old taken_new : List Message) (strokes_old strokes_new : StrokesKept) (w h : ℕ) (old new : LinkState)
     : Type 0 where
@@ -125,7 +125,8 @@ pub record Tells {S : Type 0} (looks : S → ℕ → S → Type 0) (was_set : Ty
 
 -- ---- on the way
 
--- What is said of an input that was taken after those for which the strokes stood.
+-- What is said for an input, where the strokes stood for the inputs taken before it. Afterwards they stand for that
+-- input, too.
 pub record IsJudged (strokes_old strokes_new : StrokesKept) (message : Message) (bytes : List ℕ) : Type 0 where
   pub said : (taken : List Taken) → StrokesStand strokes_old taken
       → bytes ≡ (if passes_after (unbroken taken) (taken_from message)

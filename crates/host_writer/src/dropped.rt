@@ -1,4 +1,4 @@
-//! Counts the inputs that the host isn't told.
+//! Counts the inputs that are dropped.
 
 ghost use Rattle.std.specs.Prelude.{◌≡◌, ◌+◌, ℕ, List, [], ◌∷◌, ◌++◌, length, min, if◌then◌else◌};
 ghost use Rattle.fault.specs.declared.limits.TheConstants.{LIMIT};
@@ -7,17 +7,17 @@ ghost use Rattle.roles.specs.Strokes.{Taken, input_from, passes_after, unbroken,
 
 use roles::{Input, Strokes};
 
-/// What counts the inputs that aren't told to a host.
+/// A count of the inputs that are dropped.
 pub trait DropCount {
-    /// How many inputs it has counted.
+    /// How many dropped inputs it has counted.
     ghost dropped: { Self → ℕ };
 
-    /// One more input isn't told. A count at `LIMIT` stays there.
+    /// Counts one more dropped input. A count at `LIMIT` stays there.
     fn count_one(&mut self)
         ensures { dropped self.new ≡ min LIMIT (dropped self.old + 1) };
 }
 
-/// Whether the host is told an input that was taken of this place. Where it isn't, the input is counted.
+/// Whether an input that was taken from this place passes to the host. An input that doesn't is dropped, and counted.
 pub(crate) fn passes<D: DropCount>(
     strokes: &mut Strokes,
     drops: &mut D,

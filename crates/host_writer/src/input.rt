@@ -1,4 +1,4 @@
-//! The input of viewers, taken of the relay and begun to be said.
+//! Takes the input of viewers from the relay, and begins to say it.
 
 ghost use Rattle.std.specs.Prelude.{◌≡◌, length};
 ghost use Rattle.host_writer.specs.Dropping.{IsCounted};
@@ -9,8 +9,8 @@ use crate::input_source::InputSource;
 use crate::saying::Saying;
 use roles::Strokes;
 
-/// Takes the next input of the relay, and answers whether there was one. Where the input passes, after all that was
-/// taken before, its spelling is begun; where it doesn't, it is counted.
+/// Takes the next input from the relay, and answers whether there was one. Where the input passes, given all that was
+/// taken before it, its spelling is begun; otherwise it is dropped, and counted.
 pub(crate) fn take_input<K: InputSource, D: DropCount>(
     taker: &mut K,
     strokes: &mut Strokes,

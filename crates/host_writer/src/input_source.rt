@@ -10,12 +10,12 @@ use input_relay::Taker;
 use roles::Input;
 use std::sync::Wait;
 
-/// What the inputs of viewers are taken of: for a writer it is the taker of a relay.
+/// Where the inputs of viewers are taken from: for a writer, the taker of a relay.
 ///
-/// A taker has a handle, so that a call of it may wait. A telling takes its inputs through this trait, so that none of
-/// its steps has one.
+/// A taker has a handle, since its calls may wait. A telling takes its inputs through this trait, so that none of its
+/// own steps has a handle.
 pub trait InputSource {
-    /// The relay whose inputs are taken.
+    /// The relay that the inputs are taken from.
     ghost relay: { Self → TableId };
 
     /// The inputs that were taken, in order, each with the place that sent it.

@@ -65,12 +65,13 @@ where
     unreachable!()
 }
 
-/// Tells the host the inputs that it takes of the relay, one after another. For each look whose reply is above 0 and
+/// Tells the host the inputs that it takes from the relay, one after another. For each look whose reply is above 0 and
 /// above each reply before it, it asks once for what is new of the whole screen (RFC 6143, 7.5.3). It rests where no
-/// input was taken and the look hasn't risen.
+/// input was taken and the reply hasn't risen.
 ///
 /// The host is told the inputs that the strokes let pass: none of a place while another has a key or a button down. An
-/// input that doesn't pass is counted in the strokes for its place, and in the drops for all places together.
+/// input that doesn't pass is dropped, and counted twice: in the strokes for its place, and in the drops for all places
+/// together.
 ///
 /// It is `Ok` where the flag is set, and where the link ends before the first byte of a spelling. It is `LinkEnded`
 /// where the link ends inside a spelling, and `LinkFailed` where the link fails. In each case the end of what was said

@@ -16,8 +16,8 @@ use std::marker::Model;
 /// How many bytes a request has (RFC 6143, 7.5.3). A KeyEvent, a PointerEvent and the header of a text have fewer.
 pub(crate) const REQUEST_LEN: usize = 10;
 
-/// A spelling that is given from where it lies: its first bytes, and then those of a text, which needn't be copied.
-/// Contracts see the whole spelling, and how many of its bytes were given.
+/// A spelling, which is given without a copy of its text: its first bytes are here, and behind them come those of the
+/// text, if it has one. Contracts see the whole spelling, and how many of its bytes were given.
 #[derive(Drop)]
 pub(crate) struct Saying {
     head: [u8; REQUEST_LEN],
@@ -116,7 +116,7 @@ impl Saying {
         }
     }
 
-    /// The first bytes of a head, this many, are to be said, and then a text, if there is one.
+    /// The first `len` bytes of a head are to be said, and then a text, if there is one.
     fn of_head(head: [u8; REQUEST_LEN], len: usize, text: Option<Text>) -> Self
         requires within { len ≤ length head }
         requires short { length (text_in text) ≤ longest_text }

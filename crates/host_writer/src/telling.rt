@@ -41,7 +41,7 @@ impl<L, S, K, D> Drop for TellBeginning<L, S, K, D> {
 }
 
 impl<L, S, K, D> TellBeginning<L, S, K, D> {
-    /// The beginning of a telling by these.
+    /// The beginning of a telling with this link, this source, this taker, these strokes and these drops.
     pub fn of(link: &L, source: &S, taker: &K, strokes: &Strokes, drops: &D) -> Self
         ensures link { result.link.value ≡ link.now }
         ensures source { result.source.value ≡ source.now }
@@ -59,13 +59,13 @@ impl<L, S, K, D> TellBeginning<L, S, K, D> {
     }
 }
 
-/// What it takes to tell one host: its link, the source that is looked at, what the inputs are taken of, the strokes
-/// by which they are judged, the count of those that aren't told, and what is being said.
+/// What it takes to tell one host: its link, the source that is looked at, what the inputs are taken from, the strokes
+/// by which they are judged, the count of those that are dropped, and what is being said.
 ///
-/// While a telling has them nobody else does, and a telling does with them only what its steps do. No step takes a
-/// handle, so each is proved to come to its end, as far as the link, the source and the taker do, and there `lawful`
-/// holds again. So whatever calls the steps, in whatever order and for however long, all that the host was told is as
-/// `so_far` says. A `T` is the key that takes a telling apart: who is lent a telling can't make one.
+/// Only a telling's own steps use these while the telling has them. No step takes a handle, so each is proved to end
+/// where the calls of the link, the source and the taker end, and `lawful` holds at its end. So `so_far` is true
+/// whenever steps were called, in whatever order and for however long. A `T` is the key that takes a telling apart:
+/// whoever is lent a telling can't make one.
 pub struct Telling<'a, L: Link, S: ScreenSource, K: InputSource, D: DropCount, T: Drop> {
     link: L,
     source: S,
@@ -197,8 +197,8 @@ impl<'a, L: Link, S: ScreenSource, K: InputSource, D: DropCount, T: Drop> Tellin
         )
     }
 
-    /// Looks, once all that was said is given, and begins the request where the look has risen. It answers whether it
-    /// did.
+    /// Looks at the source, where all that was said is given. Where the reply has risen the request is begun. It
+    /// answers whether that is so.
     pub(crate) fn look(&mut self) -> bool
         requires { left_of self.old.saying ≡ [] }
         ensures looks { LooksOnce S.looks self.old.request self.old.source self.new.source

@@ -1,4 +1,4 @@
--- What each place sent is what was taken of it, and then what the queue holds of it.
+-- What each place sent is what was taken from it so far, followed by what the queue still holds of it.
 use Rattle.std.specs.Prelude.{if◌then◌else◌, ◌≡◌, ℕ, ◌≤◌, ◌<◌, ◌==◌, true, false, List, [], ◌∷◌, ◌++◌}
 use mathlib.Core.Option as maybe
 use mathlib.Core.Option.{none, some}
@@ -37,8 +37,8 @@ of p (m ∷ ms) = if p == m.from then m.input ∷ of p ms else of p ms
 abbrev pub FitsSender : (ℕ → maybe.Option ℕ) → (ℕ → List Input) → ℕ → View → Type 0
 FitsSender seat sent pass v = v.sends ≡ true → (seat v.from ≡ some pass) × (v.put ≡ sent v.from)
 
--- the one taker knows what it got, that senders not made yet have sent nothing, and all that the senders that came back
--- had sent
+-- the one taker knows what it got; senders that aren't made yet have sent nothing; and of the senders that came back it
+-- knows all that each had sent
 abbrev pub FitsTaker : ℕ → (ℕ → maybe.Option ℕ) → (ℕ → List Input) → List Message → ℕ → View → Type 0
 FitsTaker reader seat sent got pass v =
     v.gets ≡ true
@@ -46,7 +46,7 @@ FitsTaker reader seat sent got pass v =
     × ((p : ℕ) → v.from ≤ p → (seat p ≡ none) × (sent p ≡ []))
     × ((k : ℕ) (s : Strand) → get_elem? v.known k ≡ some s → (seat s.from ≡ none) × (s.sent ≡ sent s.from) × (s.from < v.from))
 
--- what each place sent is what was got of it, and then what the queue holds of it
+-- what each place sent is what was got from it, followed by what the queue still holds of it
 abbrev pub Delivers : List Message → List View → Type 0
 Delivers items views =
     (reader : ℕ) × (seat : ℕ → maybe.Option ℕ) × (sent : ℕ → List Input) × (got : List Message)

@@ -4,8 +4,8 @@ use Rattle.link.specs.Links.{LinkState, HasRisen}
 use Rattle.link.specs.declared.give.Halt.{Halt}
 use Rattle.link.specs.declared.give.Halt.TheVariants as halt
 
--- Why these bytes of all of them are left: the flag was set; the link said that it ended, before the first byte or
--- after it; or the link failed.
+-- Why the bytes `left`, the last of `all`, weren't given: the flag was set; the link said that it ended, before the
+-- first byte of `all` was given or later; or the link failed.
 abbrev pub IsWhy : (was_set : Type 0) → Halt → (old new : LinkState) → (left all : List ℕ) → Type 0
 IsWhy was_set halt.Stopped old new left all = was_set × (new.failed ≡ old.failed) × (new.ended ≡ old.ended) × (length left ≤ length all)
 IsWhy was_set halt.Before old new left all = HasRisen old.ended new.ended × (new.failed ≡ old.failed) × (left ≡ all) × (0 < length all)

@@ -36,6 +36,7 @@ Rises _ failed_old failed_new ended_old ended_new = ⊥
 abbrev pub LinkFails : Fault → (old new : LinkState) → Type 0
 LinkFails fault old new = Rises fault old.failed new.failed old.ended new.ended
 
--- The link failed or ended in the meantime, or the handshake that was taken is at fault, for one with this password.
+-- The link failed or ended in the meantime, or the handshake that was taken from the host is at fault for a client with
+-- this password.
 abbrev pub FailsAs : Option (List ℕ) → Fault → (old new : LinkState) → Type 0
 FailsAs password fault old new = LinkFails fault old new ⊎ ((heard : List ℕ) × (new.taken ≡ old.taken ++ heard) × (after (host_hello password) heard ≡ Faulty fault))

@@ -14,13 +14,14 @@ abbrev pub told_to : Option Joined → List ℕ
 told_to None = []
 told_to (Some joined) = first_messages joined
 
--- All that a host is told that has said these bytes, by one with this password: what must have been said by then of the
--- client's side of the handshake; and then the first messages, once the host's own side is whole.
+-- All that a client with this password tells a host that has said these bytes: as much of the client's side of the
+-- handshake as must have been said by then, and the first messages once the host's side is whole.
 abbrev pub told_after : Option (List ℕ) → List ℕ → List ℕ
 told_after password heard = said_to_host password heard ++ told_to (whole_of (after (host_hello password) heard))
 
--- These bytes were taken so far: a beginning of one handshake, or all of it, or all up to the byte that shows a fault.
--- No byte behind was taken. And so many bytes were given of all that the host is told.
+-- What was taken from the host so far is the beginning of a handshake, a whole handshake, or a handshake up to the byte
+-- that shows a fault; no byte after that was taken. What the host was given so far is the beginning of all that it is
+-- told.
 pub record JoinsSoFar (password : Option (List ℕ)) (old new : LinkState) : Type 0 where
   pub heard : List ℕ
   pub took : new.taken ≡ old.taken ++ heard

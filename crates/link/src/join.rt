@@ -14,8 +14,8 @@ use std::snapshot::Snapshot;
 use std::sync::Wait;
 use vnc_auth::Password;
 
-/// What has a join go on until the host is joined or a fault comes, as `join_on` does. It is lent the join and nothing
-/// else that matters, so all that it can do is to call the steps.
+/// A loop that calls a join's steps until the host is joined or a fault comes, as `join_on` does. Of what matters it is
+/// lent the join alone, so it can call the join's steps, and nothing else.
 pub trait JoinsOn<L: Link> {
     /// Joins on to the end.
     fn join_on(&self, joining: &mut Joining<'_, L>) -> Result<Joined, Fault>
@@ -29,7 +29,7 @@ pub trait JoinsOn<L: Link> {
         ensures password { joining.new.hello.password ≡ joining.old.hello.password };
 }
 
-/// Has the host's handshake heard, up to its end and no byte further, and the client's side given.
+/// Hears the host's handshake to its end, and takes no byte further, while it gives the client's side.
 fn hear_on<L: Link, R: Wait>(rt: &R, joining: &mut Joining<'_, L>) -> Result<Joined, Fault>
     requires { (joining.old.is_heard ≡ false) × IsUnheard joining.old.hello }
     ensures heard { IfOk result (λ joined. IsHeard (L.state joining.old.link.now)
@@ -55,7 +55,7 @@ fn hear_on<L: Link, R: Wait>(rt: &R, joining: &mut Joining<'_, L>) -> Result<Joi
     unreachable!()
 }
 
-/// Has the first messages told to their end.
+/// Tells the host the first messages to their end.
 fn tell_on<L: Link, R: Wait>(rt: &R, joining: &mut Joining<'_, L>) -> Result<(), Fault>
     requires { joining.old.is_heard ≡ true }
     ensures tells { (password : Option (List ℕ)) (start : LinkState) (joined : Joined)
@@ -78,7 +78,7 @@ fn tell_on<L: Link, R: Wait>(rt: &R, joining: &mut Joining<'_, L>) -> Result<(),
     unreachable!()
 }
 
-/// Has the join go on until the host is joined or a fault comes. It is lent the join and nothing else that matters.
+/// Calls the join's steps until the host is joined or a fault comes. Of what matters it is lent the join alone.
 pub fn join_on<L: Link, R: Wait>(rt: &R, joining: &mut Joining<'_, L>) -> Result<Joined, Fault>
     requires { (joining.old.is_heard ≡ false) × IsUnheard joining.old.hello }
     ensures joined { IfOk result (λ joined. Joins joining.old.hello.password
@@ -95,7 +95,7 @@ pub fn join_on<L: Link, R: Wait>(rt: &R, joining: &mut Joining<'_, L>) -> Result
     Ok(joined)
 }
 
-/// The same as `join_host`, with `by` in place of a handle: no other call in it waits, so it has none itself.
+/// The same as `join_host`, with `by` in place of a handle: of the calls made here `by` alone may wait.
 pub fn join_by<L: Link, F: JoinsOn<L>>(
     by: &F,
     password: Option<Password>,
@@ -123,9 +123,9 @@ impl<'a, L: Link, R: Wait> JoinsOn<L> for Waiting<'a, R> {
     }
 }
 
-/// Joins the host at the other end, of which this password may be known: takes its handshake and no byte further, gives
-/// the client's side of it, and then asks for the format of `Format::HOST`, for the encodings CopyRect, Hextile, RRE
-/// and Raw, and for the whole screen.
+/// Joins the host at the other end, with this password if one is known. It takes the host's handshake and no byte
+/// further, and gives the client's side of it. Then it asks for the format of `Format::HOST`, for the encodings
+/// CopyRect, Hextile, RRE and Raw, and for the whole screen.
 ///
 /// It fails with `LinkFailed` where the link failed in the meantime, and with `LinkEnded` where the link ended before
 /// the last byte was given. Any other fault is one of the host's handshake.

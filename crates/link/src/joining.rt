@@ -16,11 +16,11 @@ use rfb_wire::{HostHello, Joined};
 use std::snapshot::Snapshot;
 use vnc_auth::Password;
 
-/// A host's link, what was heard of its handshake, and how much was given of what it is told.
+/// A host's link, what was heard of the host's handshake, and how much the host was given of what it is told.
 ///
-/// While a join has them nobody else does, and a join does with them only what its steps do. No step takes a handle, so
-/// each is proved to come to its end, as far as the link does, and there `lawful` holds again. So whatever calls the
-/// steps, in whatever order and for however long, all that was taken and given is as `so_far` says.
+/// Only a join's own steps use these while the join has them. No step takes a handle, so each is proved to end where
+/// the link's calls end, and `lawful` holds at its end. So `so_far` is true whenever steps were called, in whatever
+/// order and for however long.
 #[derive(Drop)]
 pub struct Joining<'a, L: Link> {
     link: &'a mut L,
@@ -37,7 +37,7 @@ pub struct Joining<'a, L: Link> {
 }
 
 impl<'a, L: Link> Joining<'a, L> {
-    /// A join that begins, of a host with this password, over a link that stands as it did at the beginning.
+    /// A join that begins, with this password if one is known, over a link that is still as it was at the beginning.
     pub fn new(password: Option<Password>, first: &'a Snapshot<L>, link: &'a mut L) -> Self
         requires { first.now.value ≡ link.old }
         ensures link { (result.link.now ≡ link.old)

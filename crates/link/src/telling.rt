@@ -61,7 +61,7 @@ pub(crate) fn messages_of(width: u64, height: u64) -> [u8; MESSAGES_LEN]
     messages
 }
 
-/// Gives as much as the link takes now of these messages, of which so many bytes were given.
+/// Gives the link as many further bytes of these messages as it takes now. `given` counts the bytes that were given.
 pub(crate) fn tell<L: Link>(link: &mut L, messages: &[u8], given: &mut usize) -> Result<(), Fault>
     requires { given.old < length messages.now }
     ensures so_far { (password : Option (List ℕ)) (start : LinkState) (joined : Joined)

@@ -405,9 +405,9 @@ fn all_cut<J: Naming + Publishes, R: Wait + Drop>(
     right
 }
 
-/// Whether all is right where all watchers but the last read beside very many puts. Each watcher looks at the last
-/// number then, including the one that never looked, and cuts that many updates; and it looks once more after one more
-/// put.
+/// Whether all is right where all watchers but the last read beside very many puts. After these each watcher, including
+/// the one that never looked, looks at the last number and cuts that many updates. After one more put each looks once
+/// more.
 fn reads_beside<J: Naming + Publishes + Send + Sync, R: Threads + Wait + Sync + Send + Copy + Drop>(
     rt: R,
     alloc: Global,

@@ -17,9 +17,9 @@ use std::test::*;
 /// So many readers stall at once, each with a board of its own.
 const READERS: usize = 8;
 
-/// How many boards are kept as one after another is to be kept, once all readers but the last have gone on: the board
-/// of the copies and that of the last reader, and the free ones, of which each time one is let go as long as there are
-/// more than four (docs/DECISIONS.md).
+/// How many boards are kept after each time that one more was to be kept, once all readers but the last have gone on.
+/// Two boards are in use: that of the copies and that of the last reader. Of the free ones one is let go each time, as
+/// long as there are more than four (docs/DECISIONS.md).
 const KEPT: [usize; 5] = [8, 7, 6, 6, 6];
 
 /// A board for a reader, which shows the first update. None is free, so it is a new one.
@@ -38,7 +38,7 @@ fn made<J: Naming>(
     Ok(board)
 }
 
-/// The boards of the readers, each of which is one more to be kept, or `None` where another number of boards is kept.
+/// The boards of the readers, or `None` where the number of boards that are kept doesn't rise by one with each of them.
 fn held<J: Naming>(
     alloc: Global,
     newest: &Published<J>,
@@ -59,7 +59,7 @@ fn held<J: Naming>(
     Ok(Some(boards))
 }
 
-/// Whether boards are let go one by one, up to four that are free, while that of the last reader is to be kept again.
+/// Whether boards are let go one by one, down to four free ones, each time that the last reader's is to be kept again.
 fn are_let_go<J: Naming>(spares: &mut Spares<J>, last: &Stamped<J>) -> bool {
     let mut right = spares.len() == READERS + 1;
     for kept in KEPT {

@@ -395,8 +395,9 @@ const PRESS_AND_ASK: [u8; 18] = [4, 1, 0, 0, 0, 0, 0, 0x61, 3, 0, 0, 0, 0, 0, 0,
 /// The links' calls of a run in which none fails.
 const CALLS: usize = 43;
 
-/// Whether a viewer whose link answers so at this call, from 0, is served with this answer, is given the bytes before
-/// it, and what came of its input is relayed and released. The link ends with the bytes.
+/// Serves a viewer whose link answers so at this call, counted from 0, and ends with its bytes. It answers whether
+/// serving ended with this answer, whether the viewer was given the bytes before that call, and whether what came of
+/// its input was relayed and released.
 fn is_served_until<R: Wait + Drop + Copy>(
     rt: R,
     alloc: Global,

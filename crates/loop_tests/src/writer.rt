@@ -83,7 +83,7 @@ struct Case<'a> {
     // The number of the fault, or 0, and how often the loop rests, at least and at most.
     answer: u64,
     rests: (u64, u64),
-    // What the host is told, and how many inputs of the two places don't pass.
+    // What the host is told, and how many inputs of each of the two places are dropped.
     given: &'a [u8],
     dropped: (u64, u64),
 }
@@ -126,7 +126,7 @@ fn relay_with<R: Wait + Drop + Copy>(
     }
 }
 
-/// How many inputs weren't told.
+/// How many inputs were dropped.
 #[derive(Drop)]
 struct Untold {
     count: u64,
@@ -140,8 +140,8 @@ impl DropCount for Untold {
     }
 }
 
-/// Tells the host what was relayed. It answers whether the answer, the rests and what doesn't pass are as told, of each
-/// place and of both.
+/// Tells the host what was relayed. It answers whether all is as told: the answer, the rests, and how many inputs were
+/// dropped, of each place and of both.
 fn tells<R: Wait + Drop>(
     rt: &R,
     case: &Case<'_>,

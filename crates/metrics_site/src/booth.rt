@@ -31,9 +31,9 @@ fn connection_of(alloc: Global, keys: RandomState) -> Connection {
     Connection::new(alloc, keys, config)
 }
 
-/// Answers a machine that has connected, over its stream, which these two read and write, with the run as it stood when
-/// the machine connected. It fails where the machine isn't done by the moment `until`, and where a read or a write
-/// fails.
+/// Answers a machine that has connected, with the run as it stood when the machine connected. The two streams, one to
+/// read from and one to write to, are those of its connection. It fails where the machine isn't done by the moment
+/// `until`, and where a read or a write fails.
 pub fn answer_one<R: Clock, I: Read + Drop, O: Write + Drop>(
     rt: &R,
     alloc: Global,

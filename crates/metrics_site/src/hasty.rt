@@ -4,7 +4,7 @@ use std::io;
 use std::io::{ErrorKind, Read, Write};
 use std::time::{Clock, Instant};
 
-/// A stream whose reads and writes fail once its time is over, which also counts as so where the clock can't be read.
+/// A stream whose reads and writes fail once its time is over. Where the clock can't be read, the time counts as over.
 #[derive(Drop)]
 pub struct Hasty<'a, R: Clock, S> {
     rt: &'a R,

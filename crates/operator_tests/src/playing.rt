@@ -80,8 +80,8 @@ fn times_are_counted_in_milliseconds(rt: HostRuntime) -> Result<(), Fail> {
     Ok(())
 }
 
-/// At twice its speed a recording has come to 4 seconds after 1.5 seconds from the first second on. It rests there for
-/// as long as it is let, goes on from there, and from where it is sought.
+/// A recording that is played at twice its speed, from its first second on, has come to 4 seconds after 1.5 seconds. It
+/// rests there until it is told to go on, and goes on from there; and then from each time that is sought.
 #[test]
 fn a_course_rests_and_goes_on(rt: HostRuntime) -> Result<(), Fail> {
     let mut course = Course::new(1_000, 200, 10_000);

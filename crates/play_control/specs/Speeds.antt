@@ -1,4 +1,5 @@
--- Speeds, as they are written: a number of one or two decimal digits, perhaps with a point and one or two further digits.
+-- Speeds, as they are written: a number of one or two decimal digits, perhaps with a point and one or two further
+-- digits.
 use Rattle.std.specs.Prelude.{◌≡◌, ℕ, ◌+◌, ◌*◌, ◌<◌, ◌≤◌, ◌⊎◌, List, length, slice_index}
 use Rattle.play_control.specs.Times.{IsTwo}
 

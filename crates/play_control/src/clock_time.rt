@@ -73,7 +73,8 @@ impl ClockTime {
         (minutes * 60 + u64::from(self.seconds)) * 1_000
     }
 
-    /// The last whole second that has come so many milliseconds after the recording began, or 99:59:59 from then on.
+    /// The time, in whole seconds, that has come so many milliseconds after the recording began; from 99:59:59 on, that
+    /// time.
     pub fn at(millis: u64) -> ClockTime
         ensures is { IsClockTime result }
         ensures time { millis_of result ≡ min (millis / 1000) 359999 * 1000 }

@@ -1,6 +1,6 @@
 //! Up to which time a recording is played.
 
-/// Up to which time a recording is played, as a clock goes on: at a speed, or not at all while it rests. Times are in
+/// Up to which time a recording is played. It goes on with a clock, at some speed, or it rests. Times are in
 /// milliseconds.
 #[derive(Clone, Copy, Debug, PartialEq, Eq, Drop)]
 pub struct Course {
@@ -16,7 +16,7 @@ impl Course {
     ghost use Rattle.std.specs.Prelude.{◌≡◌, ◌≤◌, ◌-◌, ◌^◌, ℕ, Some, None, is_some, min, not, if◌then◌else◌};
     ghost use Rattle.play_control.specs.Courses.{time_at};
 
-    /// A recording that goes on from this time on, since now, at this speed.
+    /// A recording that goes on from now, at the time `from` and with this speed.
     pub fn new(from: u64, hundredths: u64, now: u64) -> Course
         ensures { result ≡ record { from = from; since = Some now; hundredths = hundredths } }
     {
@@ -27,7 +27,7 @@ impl Course {
         }
     }
 
-    /// The time up to which is played now.
+    /// Up to which time the recording is played now.
     pub fn time(&self, now: u64) -> u64
         ensures { result ≡ min (time_at self.now now) (2 ^ 64 - 1) }
     {
@@ -68,7 +68,7 @@ impl Course {
         }
     }
 
-    /// It goes on from this time, or rests there, as it did before.
+    /// Goes to this time. The recording goes on from there, or rests there, as it did before.
     pub fn seek(&mut self, time: u64, now: u64)
         ensures from { self.new.from ≡ time }
         ensures since { self.new.since ≡ (if is_some self.old.since then Some now else None) }

@@ -1,4 +1,4 @@
-//! What an operator says of a recording that is played: times, speeds and requests, as texts; and up to which time of it
+//! What an operator says of a recording that is played: times, speeds and requests, as texts; and up to which time it
 //! is played.
 //!
 //! All of it is functions of values. The caller reads the lines, and has a clock. Memory: none. Handles: none.

@@ -1,4 +1,4 @@
--- What is heard of what was said in a recording (own).
+-- What a player hears of what was said in a recording (own).
 use Rattle.std.specs.Prelude.{ℕ, Bool, true, false, nat_lt, if◌then◌else◌, List, [], ◌∷◌, ◌++◌, take, drop, map, Option, Some, None, Ok, Err}
 use Rattle.byte_reading.specs.Reading.{Reading, Done, Faulty, Want, after, taken}
 use Rattle.recording.specs.Recording.{Block, line, said_in}
@@ -20,8 +20,8 @@ end_time last (b ∷ bs) = end_time b.1 bs
 abbrev pub greeting : List ℕ
 greeting = version 8 ++ (1 ∷ 1 ∷ 0 ∷ 0 ∷ 0 ∷ 0 ∷ [])
 
--- The opening has so many bytes: the greeting is heard at the time of its last one, and then what was said after it.
--- Nothing is heard before the opening is whole.
+-- Where an opening has `count` bytes, the greeting is heard at the time of the last of these, and then what was said
+-- after the opening. Nothing is heard before the opening is whole, or where it isn't one of ours.
 abbrev pub heard_by : Reading Opened → ℕ → List (ℕ × ℕ) → List (ℕ × ℕ)
 heard_by (Done (Ok fine)) count said = stamp (end_time 0 (take count said)) greeting ++ drop count said
 heard_by (Done (Err bad)) count said = []
@@ -50,8 +50,8 @@ said_by until bytes = said_in (up_to until (blocks_in bytes))
 
 -- ---- from a key moment on
 
--- A whole handshake, of version 3.8, with which these bytes begin (RFC 6143, 7.1 to 7.3). As long as it isn't whole,
--- and where it is at fault, all of them.
+-- The handshake, of version 3.8 (RFC 6143, 7.1 to 7.3), with which these bytes begin; where it isn't whole, or is at
+-- fault, all of the bytes.
 abbrev pub handshake_by : Reading Joined → ℕ → List (ℕ × ℕ) → List (ℕ × ℕ)
 handshake_by (Done joined) count heard = take count heard
 handshake_by (Faulty fault) count heard = heard
@@ -60,8 +60,9 @@ handshake_by (Want more) count heard = heard
 unfoldable pub handshake_in : List (ℕ × ℕ) → List (ℕ × ℕ)
 handshake_in heard = handshake_by (after (host_hello None) (bytes_of heard)) (taken (host_hello None) (bytes_of heard)) heard
 
--- What is heard of a file of which these bytes were read from its beginning on, and then these from another place on,
--- at which a block begins. Where it is played from a key moment on, only the handshake is heard of the first.
+-- What is heard of a file of which the bytes `first` were read from its beginning on. Where it is played from a key
+-- moment on, the bytes `later` were read from the key moment's place on, and of the first bytes only the handshake is
+-- heard.
 abbrev pub heard_of : Option ℕ → (is_key : Bool) → (first later : List ℕ) → List (ℕ × ℕ)
 heard_of until false first later = heard_in (said_by until first)
 heard_of until true first later = handshake_in (heard_in (said_by until first)) ++ said_by until (line ++ later)

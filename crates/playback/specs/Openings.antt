@@ -1,4 +1,4 @@
--- What is seen of an opening in bytes that have come.
+-- What bytes that have come show of an opening.
 use Rattle.std.specs.Prelude.{◌≡◌, ◌<◌, ℕ, Bool, true, false, if◌then◌else◌, List, ◌++◌, length, drop, Option, option_map, Ok, Err}
 use Rattle.byte_reading.specs.Reading.{Reading, Done, after, taken, whole_of, wants_more}
 use Rattle.recording.specs.declared.bad.BadRecording.TheVariants as recording
@@ -6,7 +6,8 @@ use Rattle.playback.specs.Opening.{Opened, opening, result}
 use Rattle.playback.specs.declared.bad.BadPlayback.{BadPlayback}
 use Rattle.playback.specs.declared.bad.BadPlayback.TheVariants.{Recording, Opening, File}
 
--- What follows the opening in these bytes, and whether it is one of ours; nothing while it isn't whole.
+-- Where the opening is whole in these bytes: what follows it, and whether it is one of ours. Nothing where it isn't
+-- whole.
 abbrev pub seen : Reading Opened → List ℕ → Option (List ℕ × Opened)
 seen form bytes = option_map (λ opened. (drop (taken form bytes) bytes, opened)) (whole_of (after form bytes))
 
@@ -19,7 +20,7 @@ pub record Begun : Type 0 where
   pub begun : List ℕ
   pub is_open : Bool
 
--- Bytes more have come of an opening that wasn't whole: it isn't whole yet, or they end it.
+-- Further bytes have come of an opening that wasn't whole. It isn't whole yet (false), or they end it (true).
 abbrev pub GoesOn : Bool → (old new more : List ℕ) → Type 0
 GoesOn false old new more = (new ≡ old ++ more) × (wants_more (after opening new) ≡ true)
 GoesOn true old new more = (after opening (old ++ more) ≡ Done (Ok tt)) × (taken opening (old ++ more) ≡ length (old ++ more)) × (0 < length more)

@@ -18,11 +18,11 @@ use Rattle.playback.specs.Reels.{Reel, HasBlocks, first_of, later_of, stream_of}
 use Rattle.playback.specs.declared.bad.BadPlayback.{BadPlayback}
 use Rattle.playback.specs.declared.bad.BadPlayback.TheVariants.{Recording, Opening, File}
 
--- What contracts see of a link to a recording: what was read of its file; up to which time it is played, and the place
--- of the key moment from which on it is played, if any; the opening of the session, and, before a key moment, its
--- handshake; how many bytes of the greeting were handed out; how many bytes of the block at hand were used, and the
--- time of the last one that was begun; what a link has taken and given, how often it has failed and ended; and whether
--- it is over, or why it can't go on.
+-- What contracts see of a link to a recording. It has what was read of its file; the time up to which the recording is
+-- played, and the place of the key moment from which on it is played, if any; the opening of the session and, before a
+-- key moment, its handshake; how many bytes of the greeting were handed out; how many bytes of the block at hand were
+-- used; and the time of the block that was begun last. It has, too, what the link has taken and given, how often it has
+-- failed and ended, and whether it is over, or why it can't go on.
 pub record Played : Type 0 where
   pub reel : Reel
   pub until : Option ℕ
@@ -42,7 +42,7 @@ pub record Played : Type 0 where
 abbrev pub state_of : Played → LinkState
 state_of p = record { taken = p.taken; given = p.given; failed = p.failed; ended = p.ended }
 
--- The pace has told that this time may be shown, or a later one.
+-- The pace has told that this time, or a later one, may be shown.
 abbrev pub HasCome : (has_come : ℕ → Type 0) → ℕ → Type 0
 HasCome has_come time = (shown : ℕ) × (time ≤ shown) × has_come shown
 
@@ -57,7 +57,8 @@ abbrev pub IsAtPlace : (is_behind : Bool) → (key : Option ℕ) → (start : �
 IsAtPlace false key start = start ≡ 0
 IsAtPlace true key start = key ≡ Some start
 
--- What was taken is a beginning of what is heard of what was read, and each byte of it had come.
+-- What was taken is a beginning of what is heard of all that was read, and each byte of it was taken only once its time
+-- had come.
 pub record IsPlayed (has_come : ℕ → Type 0) (p : Played) : Type 0 where
   pub played : List (ℕ × ℕ)
   pub left : List (ℕ × ℕ)
@@ -66,8 +67,8 @@ pub record IsPlayed (has_come : ℕ → Type 0) (p : Played) : Type 0 where
   pub had_come : All (λ b. HasCome has_come b.1) played
   pub place : IsAtPlace p.reel.is_behind p.key p.reel.start
 
--- All that is heard of what was read was taken; and that is all of the file from where on it is read, or a block that
--- comes next is too late.
+-- All that is heard of what was read was taken. And nothing more comes: either the file was read to its end, or the
+-- next block is later than is played.
 pub record IsPlayedOut (is_all : ℕ → List ℕ → Type 0) (p : Played) : Type 0 where
   pub all : p.taken ≡ bytes_of (heard p)
   pub why : is_all p.reel.start p.reel.so_far ⊎ (list_any (is_later p.until) (blocks_in (stream_of p.reel)) ≡ true)
@@ -82,29 +83,31 @@ IsWhy has_failed (Some File) p = has_failed
 
 -- ---- what is kept
 
--- These bytes were used: those of the blocks that are gone, none of which is too late, and the first of the block at
--- hand.
+-- The bytes that were used so far: those of the blocks that are gone, none of which is later than is played, and the
+-- first bytes of the block at hand.
 pub record HasUsed (p : Played) (gone : List Block) (used : List (ℕ × ℕ)) : Type 0 where
   pub blocks : HasBlocks p.reel gone
   pub early : up_to p.until gone ≡ gone
   pub is : used ≡ said_in gone ++ take p.used (said_in (up_to p.until (found (ahead p.reel.reader))))
 
--- Of these bytes so much was played: nothing while the opening isn't whole; then all but what is left of the greeting.
+-- What was played, where these bytes were used: nothing while the opening isn't whole, and after that all that is heard
+-- of them, except what is left of the greeting.
 abbrev pub Plays : (has_come : ℕ → Type 0) → Begun → (sent : ℕ) → (used played : List (ℕ × ℕ)) → (is_open : Bool) → Type 0
 Plays has_come begun sent used played false = (begun.begun ≡ bytes_of used) × (wants_more (after opening begun.begun) ≡ true) × (played ≡ []) × (sent ≡ 0)
 Plays has_come begun sent used played true = (after opening (bytes_of used) ≡ Done (Ok tt)) × (time : ℕ) × HasCome has_come time × (played ++ stamp time (drop sent greeting) ≡ heard_in used)
 
--- The handshake has heard what was played, of which it has taken all, unless it is at fault.
+-- The handshake has heard all that was played, unless it is at fault: then it has heard up to the fault.
 pub record HasHandshake (talk : HostTalk) (played : List (ℕ × ℕ)) : Type 0 where
   pub heard : hello_ahead talk ≡ after (host_hello None) (bytes_of played)
   pub all : (taken (host_hello None) (bytes_of played) ≡ length (bytes_of played)) ⊎ ((whole_of (hello_ahead talk) ≡ None) × (wants_more (hello_ahead talk) ≡ false))
 
--- The same where it is to be played from a key moment on.
+-- The same, where the recording is to be played from a key moment on.
 abbrev pub HasFront : Option ℕ → HostTalk → List (ℕ × ℕ) → Type 0
 HasFront None talk played = Unit {0}
 HasFront (Some place) talk played = HasHandshake talk played
 
--- At the place of a key moment all that was used comes after the handshake.
+-- Before it goes to the key moment (false), the bytes that were used are played as Plays says. After that (true), all
+-- bytes that were used come after the handshake.
 abbrev pub PlaysAt : (has_come : ℕ → Type 0) → Played → (used played : List (ℕ × ℕ)) → (is_behind : Bool) → Type 0
 PlaysAt has_come p used played false = Plays has_come p.opening p.sent used played p.opening.is_open × HasFront p.key p.hello played
 PlaysAt has_come p used played true = (p.key ≡ Some p.reel.start) × (p.opening.is_open ≡ true) × (p.sent ≡ 18) × (played ≡ handshake_in (heard_in (said_by p.until p.reel.before)) ++ used)

@@ -6,9 +6,9 @@ use Rattle.playback.specs.declared.bad.BadPlayback.TheVariants.{Recording, Openi
 use Rattle.recording.specs.Recording.{Block, line}
 use Rattle.recording.specs.Progress.{Progress, HasRead, ahead}
 
--- What contracts see of a file that is read: whether it went to another place, and what was read before; from where on
--- it is read, and all that was read from there on; those of these bytes that the reader of blocks hasn't seen, and what
--- that reader holds.
+-- What contracts see of a file that is read: whether it went to another place, and what was read before that; from
+-- which place on it is read now, and all that was read from there; those bytes that the reader of blocks hasn't seen
+-- yet, and what that reader holds.
 pub record Reel : Type 0 where
   pub is_behind : Bool
   pub before : List ℕ
@@ -41,7 +41,8 @@ later_of r = later_in r.is_behind r.so_far
 abbrev pub stream_of : Reel → List ℕ
 stream_of r = stream_in r.is_behind r.so_far
 
--- The reader has seen all bytes but these, and has gone on from these blocks. Reading began at the file's beginning.
+-- The reader has seen all bytes but these, and has gone past these blocks. Before the file goes to another place it is
+-- read from its beginning on.
 pub record HasBlocks (r : Reel) (gone : List Block) : Type 0 where
   pub start : r.is_behind ≡ false → r.start ≡ 0
   pub fed : List ℕ

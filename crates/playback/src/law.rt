@@ -8,9 +8,9 @@ ghost use Rattle.recording_index.specs.declared.moment.KeyMoment.{KeyMoment};
 ghost use Rattle.playback.specs.Opening.{IsOpening};
 ghost use Rattle.playback.specs.Heard.{bytes_of, greeting, heard_in, heard_of, handshake_in, said_by};
 
-/// A session that opens by version 3.3, 3.5, 3.7 or 3.8 with security type None is heard as one of version 3.8, and
-/// what follows its opening as it was said. Where it was one of version 3.8 that offers nothing but None, as each is
-/// that was recorded here, all is heard as it was said.
+/// A session that opens by version 3.3, 3.5, 3.7 or 3.8 with security type None is heard as one of version 3.8: what
+/// follows its opening is heard as it was said. Where it is a session of version 3.8 that offers nothing but None, as
+/// each that was recorded here is, all of it is heard as it was said.
 pub fn openings_are_heard()
     ensures heard { (said : List (ℕ × ℕ)) (opening later : List ℕ) → IsOpening opening
         → bytes_of said ≡ opening ++ later → bytes_of (heard_in said) ≡ greeting ++ later }
@@ -24,9 +24,9 @@ pub fn beginnings_are_heard()
         × (heard_in (said_by until (front ++ back)) ≡ heard_in (said_by until front) ++ later) }
 {}
 
-/// Of a recording all is heard that was said in its blocks; and from a key moment on, its handshake, and then what was
-/// said in the key moment's block and in all later ones. The handshake of a session of our own is what its viewer was
-/// told in it.
+/// From its beginning on, all of a recording is heard that was said in its blocks. From a key moment on, the
+/// recording's handshake is heard, and then what was said in the key moment's block and in all later ones. The
+/// handshake of a session of our own is what its viewer was told in it.
 pub fn recordings_are_heard()
     ensures all { (blocks : List Block) → AreBlocks blocks
         → heard_in (said_by None (recording_bytes blocks)) ≡ heard_in (said_in blocks) }

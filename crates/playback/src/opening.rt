@@ -70,7 +70,8 @@ fn see_result(bytes: &[u8]) -> Option<(&[u8], Result<(), BadOpening>)>
     Some((rest, judge_result(number(field))))
 }
 
-/// What is seen behind security types, of which one is to be None. In version 3.8 a SecurityResult follows them.
+/// What the bytes after these security types show, one of which has to be None. In version 3.8 a SecurityResult follows
+/// the types.
 fn see_offered<'a>(
     types: &[u8],
     rest: &'a [u8],
@@ -88,7 +89,7 @@ fn see_offered<'a>(
     see_result(rest)
 }
 
-/// What is seen of as many security types as are told, and of what follows them.
+/// What these bytes show: `count` security types, and what follows them.
 fn see_counted(
     count: usize,
     bytes: &[u8],
@@ -119,7 +120,7 @@ fn see_security(bytes: &[u8], has_result: bool) -> Option<(&[u8], Result<(), Bad
     see_counted(usize::from(first[0]), rest, has_result)
 }
 
-/// What is seen behind a version.
+/// What the bytes after this version show.
 fn see_by_version<'a>(field: &[u8], rest: &'a [u8]) -> Option<(&'a [u8], Result<(), BadOpening>)>
     ensures { option_map (λ s. (s.0.now, s.1)) result ≡ seen (by_version field.now) rest.now }
 {

@@ -46,8 +46,8 @@ fn copy_front(bytes: &[u8], into: &mut [u8]) -> usize
     count
 }
 
-/// How many of these bytes are heard. Before a key moment is gone to (`is_front`) no more are than end the handshake,
-/// unless it is at fault.
+/// How many of these bytes are heard. Before the link goes to a key moment (`is_front`), these are at most as many as
+/// end the handshake, and all where the handshake is at fault.
 fn fitting(hello: &mut HostHello, is_front: bool, bytes: &[u8]) -> usize
     ensures count { result ≤ length bytes.now }
     ensures all { is_front ≡ false → result ≡ length bytes.now }
@@ -255,9 +255,9 @@ impl<F: Recorded, P: Pace> PlayedLink<F, P> {
         PlayedLink::with_key(alloc, file, pace, until, Some(moment.place))
     }
 
-    /// It does nothing. Its clauses say that, at every moment, what was taken is a beginning of what is heard of what
-    /// was read of the file, that the time of each byte of it had come, and, if there is a reason why it can't be
-    /// played on, which.
+    /// It does nothing. Its clauses say what is true at every moment. What was taken is a beginning of what is heard of
+    /// all that was read of the file, and the time of each byte of it had come. And if the recording can't be played
+    /// on, there is the reason for it.
     pub fn plays(&self)
         ensures played { IsPlayed P.has_come self.now }
         ensures why { IsWhy F.has_failed self.now.why self.now }
@@ -498,7 +498,7 @@ impl<F: Recorded, P: Pace> PlayedLink<F, P> {
         self.why = Some(BadPlayback::Recording(bad));
     }
 
-    /// All was played up to the block at hand, which is too late.
+    /// All was played that comes before the block at hand, and that block is later than is played.
     fn finish(&mut self)
         requires ready { IsReady self.old }
         requires late { IsLate self.old }

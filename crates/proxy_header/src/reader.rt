@@ -4,8 +4,8 @@ use crate::origin::{Origin, Refusal};
 use crate::state::State;
 use std::marker::Model;
 
-/// Reads a header, in whatever pieces it comes, and nothing after it. It takes no memory, and keeps only the address of
-/// a header's bytes.
+/// Reads a header, in whatever pieces it comes, and nothing after it. It takes no memory, and of a header's bytes it
+/// keeps only the address.
 #[derive(Drop)]
 pub struct HeaderReader {
     state: State,

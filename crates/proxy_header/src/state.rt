@@ -35,7 +35,7 @@ pub(crate) enum State {
     Signature(usize),
     /// The signature and a command.
     Family(Command),
-    /// All before the length, by which the header tells these addresses, if they are used here.
+    /// All before the length. The header tells addresses of this kind, or none that are used here.
     Length(Option<Ip>),
     /// The same, and the first byte of the length.
     LengthEnd(Option<Ip>, u8),

@@ -16,15 +16,16 @@ use Rattle.recording_index.specs.declared.moment.KeyMoment.{KeyMoment}
 abbrev pub said_bytes : List Block → List ℕ
 said_bytes blocks = flat_map (λ b. b.said) blocks
 
--- Who reads from a black screen on what a host says at last stands between two messages, as one does who has read all
--- that came before it, too; and both show the same.
+-- All of the screen is shown anew by `more`. Whoever reads only `more`, from a black screen on, shows then the same as
+-- whoever has read all that came before it, too; and both stand between two messages.
 pub record IsShownAnew (w h : ℕ) (before more : List ℕ) : Type 0 where
   pub all_between : rest (host_message w h) (before ++ more) ≡ host_message w h
   pub between : rest (host_message w h) more ≡ host_message w h
   pub same : LooksLike w h (screen (updates w h more)) (screen (updates w h (before ++ more)))
 
--- A block begins at the key moment's place, and has its time. What is said before it is a whole handshake, of version
--- 3.8 with security type None, and messages; and what is said in it and in some blocks behind it shows all anew.
+-- A block begins at the key moment's place, and has its time. What is said before the block is a whole handshake, of
+-- version 3.8 with security type None, and then messages. What is said in the block and in some blocks after it shows
+-- all of the screen anew.
 pub record IsKey (blocks : List Block) (m : KeyMoment) : Type 0 where
   pub earlier : List Block
   pub block : Block

@@ -1,4 +1,4 @@
--- What one knows who follows what a host says.
+-- What is known of a follower of what a host says.
 use Rattle.std.specs.Prelude.{◌≡◌, ℕ, ◌<◌, Bool, true, None, List, length}
 use Rattle.byte_reading.specs.Reading.{after, fault_of, rest, wants_more}
 use Rattle.raster.specs.Screen.{LooksLike}
@@ -8,8 +8,8 @@ use Rattle.host_decoder.specs.Decoder.{Decodes, Decoding, host_message, start}
 use Rattle.host_decoder.specs.Updates.{updates}
 use Rattle.rebuilt_index.specs.declared.follower.Follower.{Follower}
 
--- A screen of w by h, black at first, was painted by these bytes of a host, of which the last message may be open. Where
--- they end between two messages no byte of a message is held.
+-- A screen of w by h, black at first, was painted by these bytes of a host, whose last message may not be whole. Where
+-- the bytes end between two messages, no byte of a message is held.
 pub record FollowsBy (w h : ℕ) (decoder : Decoding) (painter : Painting) (is_between : Bool) (stream : List ℕ) : Type 0 where
   pub wide : decoder.width ≡ w
   pub high : decoder.height ≡ h
@@ -21,7 +21,8 @@ pub record FollowsBy (w h : ℕ) (decoder : Decoding) (painter : Painting) (is_b
 abbrev pub Follows : ℕ → ℕ → Follower → (stream : List ℕ) → Type 0
 Follows w h f stream = FollowsBy w h f.decoder f.painter f.is_between stream
 
--- It has followed the stream, and was fed a piece behind it, of which it has used what ends a message, or all.
+-- The follower has read the stream, and was then fed a piece. It has used this up to the end of a message, or all of
+-- it.
 pub record HasFed (w h : ℕ) (f : Follower) (stream piece : List ℕ) : Type 0 where
   pub wide : f.decoder.width ≡ w
   pub high : f.decoder.height ≡ h

@@ -21,8 +21,8 @@ pub record IsOpened (blocks : List Block) (hello : List ℕ) (joined : Joined) (
   pub spelled : Spells (host_hello None) hello joined
   pub said : said_bytes blocks ≡ hello ++ rest
 
--- One follows from a block on, where the main one has followed this stream, and has heard all that is said in the block
--- and behind it, but this at the end.
+-- A second follower is tried, which follows from a block on. The main one has followed `stream`, and the second one all
+-- of this that is said from the block on. Of what the blocks say only `rest`, at the end, wasn't followed yet.
 pub record IsTried (w h : ℕ) (hello stream : List ℕ) (blocks : List Block) (rest : List ℕ) (t : Trial) : Type 0 where
   pub earlier : List Block
   pub block : Block
@@ -36,17 +36,17 @@ pub record IsTried (w h : ℕ) (hello stream : List ℕ) (blocks : List Block) (
   pub behind : stream ≡ before ++ fed
   pub follows : Follows w h t.follower fed
 
--- The same, if one does.
+-- The same, if a second follower is tried.
 abbrev pub IsTriedIfAny : ℕ → ℕ → (hello stream : List ℕ) → List Block → (rest : List ℕ) → Option Trial → Type 0
 IsTriedIfAny w h hello stream blocks rest None = Unit {0}
 IsTriedIfAny w h hello stream blocks rest (Some t) = IsTried w h hello stream blocks rest t
 
--- The last of some key moments, which follow this one.
+-- The last of these key moments, or the one before them where there is none.
 abbrev pub last_of : KeyMoment → List KeyMoment → KeyMoment
 last_of before [] = before
 last_of before (m ∷ moments) = last_of m moments
 
--- All that the blocks say was followed, but this at the end; and these key moments were found.
+-- All that the blocks say was followed, except `rest` at the end, and these key moments were found.
 pub record SeeksBy (rest : List ℕ) (follower : Follower) (tried : Option Trial) (moments : List KeyMoment) (latest : KeyMoment) (blocks : List Block) : Type 0 where
   pub hello : List ℕ
   pub joined : Joined
@@ -66,7 +66,7 @@ pub record IsOpening (s : Session) (blocks : List Block) : Type 0 where
   pub all : taken (host_hello None) (said_bytes blocks) ≡ length (said_bytes blocks)
   pub wants : wants_more (hello_ahead s.hello) ≡ true
 
--- It was, or it is whole.
+-- The handshake isn't whole, as in IsOpening; or it is, and key moments are sought.
 abbrev pub HasSeenBy : Option Seeker → Session → List Block → Type 0
 HasSeenBy None s blocks = IsOpening s blocks
 HasSeenBy (Some seeker) s blocks = Seeks [] seeker blocks
@@ -74,14 +74,14 @@ HasSeenBy (Some seeker) s blocks = Seeks [] seeker blocks
 abbrev pub HasSeen : Session → List Block → Type 0
 HasSeen s blocks = HasSeenBy s.seeker s blocks
 
--- These bytes of the file were read: all blocks that are whole in them were seen, but for one that waits, if any.
+-- These bytes of the file were read. All blocks that are whole in them were seen, except one that may wait to be seen.
 pub record HasFed (r : Rebuilder) (fed : List ℕ) : Type 0 where
   pub blocks : List Block
   pub read : HasRead fed blocks (ahead r.reader)
   pub place : r.place ≡ length (recording_bytes blocks)
   pub seen : HasSeen r.session blocks
 
--- The same, and none waits.
+-- The same, and no block waits.
 pub record HasRebuilt (r : Rebuilder) (fed : List ℕ) : Type 0 where
   pub fed_ : HasFed r fed
   pub wants : wants_more (ahead r.reader) ≡ true

@@ -1,4 +1,4 @@
-//! One who follows what a host says, from some place on.
+//! A follower of what a host says, from some place on.
 
 ghost use Rattle.std.specs.Prelude.{◌≡◌, true};
 ghost use Rattle.host_decoder.specs.Decoder.{IsFor};

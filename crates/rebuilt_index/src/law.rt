@@ -12,8 +12,8 @@ ghost use Rattle.recording_index.specs.KeyMoments.{IsAt, IsIndexOf};
 ghost use Rattle.recording_index.specs.declared.moment.KeyMoment.{KeyMoment};
 ghost use Rattle.rebuilt_index.specs.Anew.{AreKeyMoments, IsKey, IsShownAnew};
 
-/// What a player shows who begins at a key moment: from where all is shown anew on, whatever comes, it shows what one
-/// does who began at the recording's beginning, and both stand at the same place in a message. The key moments that
+/// A player that begins at a key moment shows, from where all of the screen is shown anew, the same as one that began
+/// at the recording's beginning, whatever comes; and both stand at the same place in a message. The key moments that
 /// were found are an index of the recording.
 pub fn players_may_begin()
     ensures shows { (w h : ℕ) (before more later : List ℕ) → IsShownAnew w h before more

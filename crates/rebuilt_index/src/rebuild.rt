@@ -151,13 +151,13 @@ impl Rebuilder {
     }
 }
 
-/// Makes the index of a recording anew: reads its file, which is at its beginning, to the end, and answers its key
-/// moments. They are those at which all of the screen is brought anew, at least a second apart. Where a file ends within
-/// a block, that block counts for nothing.
+/// Makes the index of a recording anew. It reads the recording's file, which is at its beginning, to the end, and
+/// answers its key moments: blocks at which all of the screen is brought anew, at least a second apart. Where a file
+/// ends within a block, that block counts for nothing.
 ///
-/// It fails where the file does, where it isn't a recording, or one that can't be read on, where the recorded session
-/// doesn't open as one of version 3.8 with security type None, as each opens that was recorded here, or says what no
-/// host may say, and where memory is refused.
+/// It fails where the file does; where the file isn't a recording, or can't be read on; where the recorded session
+/// doesn't open as one of version 3.8 with security type None, as each opens that was recorded here; where the session
+/// says what no host may say; and where memory is refused.
 pub fn rebuild_index<F: Recorded, R: Wait>(
     rt: &R,
     alloc: Global,

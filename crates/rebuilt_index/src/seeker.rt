@@ -17,7 +17,7 @@ use std::alloc::Global;
 /// How many milliseconds lie between two key moments, at least.
 const LEAST_APART: u32 = 1_000;
 
-/// One who follows from a block on that may be a key moment.
+/// A follower from a block on that may be a key moment.
 #[derive(Drop)]
 pub(crate) struct Trial {
     pub(crate) moment: KeyMoment,
@@ -40,7 +40,7 @@ fn look_alike(one: &Follower, other: &Follower) -> bool
     true
 }
 
-/// The block that was looked at, unless an update has come whole that doesn't show the same.
+/// The block that was looked at, unless a whole update has come after which the screens differ.
 fn still_tried(trial: Trial) -> Option<Trial>
     ensures { IfSome result (λ left. left ≡ trial) }
 {
@@ -50,7 +50,7 @@ fn still_tried(trial: Trial) -> Option<Trial>
     Some(trial)
 }
 
-/// One who follows a session from its beginning on, and has found key moments of it.
+/// Follows a session from its beginning on, and has the key moments that were found so far.
 #[derive(Drop)]
 pub(crate) struct Seeker {
     alloc: Global,
@@ -152,8 +152,8 @@ impl Seeker {
         Ok(())
     }
 
-    /// Takes the block that was looked at for a key moment where all that it began shows the same; or leaves it alone
-    /// where an update has come that doesn't.
+    /// Decides on the block that is looked at. It is a key moment where both followers stand between two messages and
+    /// show the same. It is given up where an update has come and they don't.
     fn judge(&mut self) -> Result<(), BadRebuild>
         ensures { (blocks : List Block) → Seeks [] self.old blocks
             → OnOk result (Seeks [] self.new blocks) }

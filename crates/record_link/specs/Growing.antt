@@ -25,7 +25,7 @@ pub record Growing : Type 0 where
 unfoldable pub recorded_in : Growing → List (ℕ × ℕ)
 recorded_in g = said_in (blocks_in g.tape.spelled) ++ stamp g.waiting.time g.waiting.said
 
--- How many bytes of a recording that is spelled so are said before a key moment.
+-- How many bytes are said before a key moment, in a recording of which these bytes were spelled.
 unfoldable pub said_before : List ℕ → KeyMoment → ℕ
 said_before spelled m = length (said_in (blocks_in (take m.place spelled)))
 
@@ -35,8 +35,9 @@ key_points g = map (said_before g.tape.spelled) (moments_in g.index.spelled) ++ 
 
 -- ---- what a recording keeps
 
--- What was spelled are the blocks of a recording, which the one that waits may follow. What was spelled for the index
--- are key moments of these. While a key moment is due its index can take it.
+-- The bytes that were spelled for the file are those of a recording, and the block that waits may come after its
+-- blocks. Those that were spelled for the index are the index of key moments of this recording. While a key moment is
+-- due, the index can take it.
 pub record IsGrowing (g : Growing) : Type 0 where
   pub blocks : List Block
   pub spelled : g.tape.spelled ≡ recording_bytes blocks
@@ -48,9 +49,9 @@ pub record IsGrowing (g : Growing) : Type 0 where
 
 -- ---- what is promised of it
 
--- The file has a beginning of the bytes of a recording. What its whole blocks say, then what the rest says that was
--- spelled, and then what waits, is all that was recorded, in order. Unless the file is written no more, the rest of the
--- bytes is what it hasn't taken. Neither that nor what waits is more than one block.
+-- The file has a beginning of the bytes of a recording. All that was recorded is, in order, what the file's whole
+-- blocks say, then what the later blocks say that were spelled, and then what waits. While the file is still written,
+-- the bytes that it lacks are those that it hasn't taken; these are at most one block, and so is what waits.
 pub record IsKept (g : Growing) : Type 0 where
   pub blocks : List Block
   pub are : AreBlocks blocks
@@ -65,8 +66,8 @@ pub record IsKept (g : Growing) : Type 0 where
   pub few : length g.tape.unsent ≤ LONGEST_SPELLING
   pub short : length g.waiting.said ≤ LONGEST_WRITTEN
 
--- The file of the index has a beginning of the bytes of an index, each of whose key moments is where a block begins
--- that was spelled for the recording.
+-- The file of the index has a beginning of the bytes of an index. Each of its key moments is where one of the blocks
+-- begins that were spelled for the recording.
 pub record IsIndexed (g : Growing) : Type 0 where
   pub blocks : List Block
   pub are : AreBlocks blocks
@@ -83,7 +84,8 @@ pub record IsWhole (g : Growing) : Type 0 where
   pub sent : g.tape.unsent ≡ []
   pub none : g.waiting.said ≡ []
 
--- These bytes were recorded next, at this time, or none was. A recording ends only by a failure.
+-- The first of these bytes were recorded next, at this time, or none was. A recording never says that it ends; it
+-- fails.
 abbrev pub KeepsAs : Gave → ℕ → (old new : List (ℕ × ℕ)) → (bytes : List ℕ) → Type 0
 KeepsAs (gave.Bytes count) time old new bytes = (1 ≤ count) × (count ≤ length bytes) × (new ≡ old ++ stamp time (take count bytes))
 KeepsAs gave.Nothing time old new bytes = new ≡ old

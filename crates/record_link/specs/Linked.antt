@@ -21,8 +21,8 @@ bytes_of recorded = map (λ p. p.0) recorded
 abbrev pub state_of : Linked → LinkState
 state_of l = record { taken = l.talk.taken; given = bytes_of (recorded_in l.growing); failed = l.failed; ended = 0 }
 
--- The recorder has heard the handshake in what was given. No more key moments were begun than requests were made for
--- all of the screen.
+-- In what was given the recorder has heard the handshake so far. There are at most as many key moments, the one that is
+-- due included, as requests that were made for all of the screen.
 pub record IsLinked (l : Linked) : Type 0 where
   pub heard : List ℕ
   pub later : List ℕ
@@ -34,8 +34,8 @@ pub record IsLinked (l : Linked) : Type 0 where
 
 -- ---- what is promised
 
--- What was given is in the file's whole blocks, and then in what waits for it; the index is one of the recording; and
--- what was taken is what the recorder says, as a viewer that makes requests of these kinds, of which at least as many
+-- What was given is in the file's whole blocks, and then in what waits for the file. The index is one of the recording.
+-- What was taken is what the recorder says, as a viewer that makes requests of these kinds; at least as many of them
 -- are for all of the screen as there are key moments.
 pub record IsCarried (l : Linked) : Type 0 where
   pub kept : IsKept l.growing

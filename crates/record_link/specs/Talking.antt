@@ -34,8 +34,8 @@ abbrev pub told_by_now : Option Joined → List Bool → List ℕ
 told_by_now None kinds = []
 told_by_now (Some joined) kinds = told_to joined kinds
 
--- All that the recorder says to a session whose handshake is this so far: what must have been said by then of a
--- viewer's side, without a password, and then these requests.
+-- All that the recorder says to a session that has said these bytes of its handshake: as much of a viewer's side,
+-- without a password, as must have been said by then, and then these requests.
 abbrev pub said_after : List Bool → List ℕ → List ℕ
 said_after kinds heard = said_to_host None heard ++ told_by_now (whole_of (after (host_hello None) heard)) kinds
 
@@ -46,8 +46,9 @@ BeginsWhole (kind ∷ kinds) = kind ≡ false
 
 -- ---- what is promised
 
--- The session, which has given these bytes, was said a beginning of that, by requests of these kinds. Of the bytes
--- given, those that were heard are its handshake so far; the later ones come after it.
+-- The session has given these bytes: first its handshake so far, which was heard, and then later bytes, if the
+-- handshake is whole or at fault. What was said to it is a beginning of all that the recorder says, with requests of
+-- these kinds.
 pub record SaysSoFar (given said : List ℕ) (kinds : List Bool) : Type 0 where
   pub heard : List ℕ
   pub later : List ℕ
@@ -68,8 +69,8 @@ pub record Talk : Type 0 where
   pub taken : List ℕ
   pub pending : List ℕ
 
--- Before the first request the handshake is said, as far as it was sent. From then on its end was sent, and the
--- messages of these requests follow it.
+-- Before the first request the handshake is said, as far as it was sent. After it the whole handshake was sent, and
+-- then come the messages of these requests.
 abbrev pub Stands : Bool → Talk → List ℕ → List Bool → Type 0
 Stands false t heard kinds = (t.taken ≡ take t.hello.sent (said_to_host None heard)) × (t.pending ≡ []) × (kinds ≡ [])
 Stands true t heard kinds = (joined : Joined) × (others : List Bool) × (kinds ≡ false ∷ others) × (whole_of (ahead t.hello) ≡ Some joined) × (drop t.hello.sent (said_to_host None heard) ≡ []) × (t.taken ++ t.pending ≡ said_to_host None heard ++ told_to joined kinds)

@@ -9,9 +9,9 @@ use std::alloc::{AllocError, Global};
 use std::marker::Model;
 
 /// A recording that grows in a file, with its index in another. It keeps at most one block that isn't spelled and one
-/// that is, and never waits: where the file doesn't take the one, and there is no room in the other, nothing is kept.
-/// Where the file fails the recording has ended, and what the file has stays right up to its last whole block. Where
-/// the file of the index fails the recording goes on, with no further key moment.
+/// that is. It never waits: where the file doesn't take the spelled block, and the other one has no more room, nothing
+/// is kept. Where the file fails the recording has ended, and what the file has is right up to its last whole block.
+/// Where the file of the index fails the recording goes on, with no further key moment.
 #[derive(Drop)]
 pub struct GrowingRecording<S: Storage> {
     tape: Tape<S>,
@@ -181,8 +181,8 @@ impl<S: Storage> GrowingRecording<S> {
         }
     }
 
-    /// Has the block that is recorded next be a key moment, where all that was recorded is in the file and the index
-    /// can take an entry. It answers whether that is so.
+    /// Makes the block that is recorded next a key moment, where all that was recorded is in the file and the index can
+    /// take an entry. It answers whether it did.
     pub fn begin_key(&mut self) -> bool
         ensures recorded { recorded_in self.new ≡ recorded_in self.old }
         ensures time { self.new.waiting.time ≡ self.old.waiting.time }

@@ -14,8 +14,8 @@ pub fn whole_recordings_are_read()
         → said_in (blocks_in g.tape.stored) ≡ recorded_in g }
 {}
 
-/// Who reads the line of a recording, and goes on at the place of a key moment, reads what was recorded from the key
-/// moment's point on: as many bytes are left out as were recorded before it.
+/// Whoever reads the line of a recording and goes on at the place of a key moment reads all that was recorded from the
+/// key moment on. What is left out is as many bytes as were recorded before it.
 pub fn key_moments_lead_on()
     ensures { (blocks : List Block) (m : KeyMoment) → AreBlocks blocks → IsAt blocks m
         → said_in (blocks_in (line ++ drop m.place (recording_bytes blocks)))

@@ -35,7 +35,8 @@ pub struct RecordLink<S: Storage, W: Watch> {
     is_refused: bool,
     /// Whether the session has said something since the last request.
     is_answered: bool,
-    /// Whether all was kept that the session gave last. Then it stands between two messages when it takes bytes.
+    /// Whether all was kept that the session gave last. If so, the session stands between two messages when it takes
+    /// bytes.
     is_between: bool,
     /// How many milliseconds lie between two key moments, and when the last one was begun.
     key_every: u32,

@@ -134,7 +134,7 @@ impl<S: Storage> Tape<S> {
         !self.is_broken && self.start >= self.end && self.len <= LONGEST_TAPE
     }
 
-    /// Has the file written no more, where it is so long that no more may be spelled.
+    /// Ends writing to the file, where it is so long that no more may be spelled for it.
     pub(crate) fn end_if_full(&mut self)
         ensures same { self.new ≡ record self.old { is_broken = self.new.is_broken } }
         ensures broken { self.old.is_broken ≡ true → self.new ≡ self.old }

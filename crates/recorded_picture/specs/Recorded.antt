@@ -27,18 +27,18 @@ pub record ShowsAll (old new : LinkState) (picture : Shown) : Type 0 where
   pub joins : Joins None old between joined
   pub shows : ShowsStream joined.w joined.h between new picture
 
--- Memory was refused; or what came of a stream was at fault, or the link failed: it didn't end.
+-- Memory was refused; or the stream that came was at fault; or the link failed. The link didn't simply end.
 abbrev pub StopsIn : ℕ → ℕ → Fault → (old new : LinkState) → Type 0
 StopsIn w h fault old new = (fault ≡ Memory) ⊎ ((fault ≢ LinkEnded) × (put : List Update) × EndsWith w h opening fault old new [] put)
 
--- It was so after the handshake.
+-- The host was joined, and after that it stopped as in StopsIn.
 pub record StopsAfter (fault : Fault) (old new : LinkState) : Type 0 where
   pub between : LinkState
   pub joined : Joined
   pub joins : Joins None old between joined
   pub stops : StopsIn joined.w joined.h fault between new
 
--- Why there is no picture: the host wasn't joined, as where the link ends before its handshake is whole; or what came
--- after that.
+-- Why there is no picture: the host wasn't joined, as where the link ends before the host's handshake is whole; or it
+-- stopped after that.
 abbrev pub HasNone : Fault → (old new : LinkState) → Type 0
 HasNone fault old new = FailsAs None fault old new ⊎ StopsAfter fault old new

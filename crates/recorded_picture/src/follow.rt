@@ -14,7 +14,7 @@ use painter::{Painter, same_updates_show_the_same};
 use std::alloc::Global;
 use std::sync::Wait;
 
-/// The picture, where the link has ended, or else the fault.
+/// The picture, where the fault is only that the link ended; otherwise the fault.
 fn unless_ended(fault: Fault, picture: Picture) -> Result<Picture, Fault>
     ensures ok { IfOk result (λ given. (given ≡ picture) × (fault ≡ LinkEnded)) }
     ensures err { IfErr result (λ given. (given ≡ fault) × (fault ≢ LinkEnded)) }
@@ -25,7 +25,7 @@ fn unless_ended(fault: Fault, picture: Picture) -> Result<Picture, Fault>
     }
 }
 
-/// The picture that a host's messages show once all have come that a link hands out until it ends.
+/// The picture that a host's messages show once the link has handed out all of them and ends.
 fn show_stream<L: Link, R: Wait>(
     rt: &R,
     alloc: Global,
@@ -50,11 +50,12 @@ fn show_stream<L: Link, R: Wait>(
     }
 }
 
-/// The picture that a session shows once all has come that a link hands out until it ends: a host's handshake, and its
-/// messages. Where the link ends inside a message, that message counts for nothing.
+/// The picture that a session shows once the link has handed out all of it, a host's handshake and its messages, and
+/// ends. Where the link ends inside a message, that message counts for nothing.
 ///
 /// It fails with `LinkEnded` where the link ends before the handshake is whole, with `LinkFailed` where the link fails,
-/// with `Memory`, and with the fault of the host's bytes. The host's side of the handshake has security type None.
+/// with `Memory` where memory is refused, and with the fault of the host's bytes. The host's side of the handshake has
+/// security type None.
 pub fn picture_of<L: Link, R: Wait>(rt: &R, alloc: Global, link: &mut L) -> Result<Picture, Fault>
     ensures ok { IfOk result (λ picture. ShowsAll (L.state link.old) (L.state link.new) picture) }
     ensures err { IfErr result (λ fault. HasNone fault (L.state link.old) (L.state link.new)) }

@@ -41,7 +41,8 @@ pub struct RecorderDoor<R: Wait + Clock + Drop, F: Write + Drop, N: RecordingLog
     ghost fresh: { ForSome link (λ l. state_of l ≡ unused) },
 }
 
-/// Why a recording ended whose session ended so, and whose file said this when it refused bytes.
+/// Why a recording ended. `why` is how its session ended, and `failure` what its file said when it refused bytes, if it
+/// did.
 fn reason_of(failure: Option<ErrorKind>, why: Result<(), Fault>) -> EndReason {
     match (failure, why) {
         (Some(kind), _) => EndReason::File(kind),

@@ -57,7 +57,7 @@ impl Recording {
         *self.standing.lock(rt) = Standing::Begun(clock_millis(rt));
     }
 
-    /// It is over, since its file took no more where that is said, and otherwise with the run.
+    /// The recording is over: because its file took no more, where `failure` says so, and otherwise with the run.
     pub(crate) fn end<R: Wait>(&self, rt: &R, failure: Option<ErrorKind>) {
         let mut standing = self.standing.lock(rt);
         *standing = match failure {

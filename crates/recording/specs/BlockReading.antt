@@ -1,4 +1,5 @@
--- How a recording is read: its line, and then block after block, each of which may not be before the one before it.
+-- How a recording is read: its line, and then block after block. No block's time may be before that of the block before
+-- it.
 use Rattle.std.specs.Prelude.{ℕ, nat_lt, if◌then◌else◌, bytes_eq, List, [], ◌∷◌, ◌++◌, Result, Ok, Err}
 use Rattle.byte_reading.specs.Reading.{Reading, Done, Faulty, Want, ◌>>=◌, step, bytes, padding, u32}
 use Rattle.recording.specs.Recording.{Block, line, padding_len}
@@ -10,7 +11,7 @@ use Rattle.recording.specs.declared.form.TheConstants.{LONGEST_READ}
 abbrev pub Found : Type 0
 Found = Result Block BadRecording
 
--- A block of these data at this time, after a block of the time last.
+-- A block of these data at this time, where the block before has the time `last`.
 abbrev pub timed : ℕ → List ℕ → ℕ → Found
 timed last said time = if nat_lt time last then Err TimeGoesBack else Ok (record { said = said; time = time })
 
@@ -39,19 +40,19 @@ found (Done (Err bad)) = []
 found (Faulty fault) = []
 found (Want more) = []
 
--- After a whole block the next one is read. What can't be read on stays so.
+-- How reading goes on: after a whole block with the next one. Where the recording can't be read on, that stays so.
 abbrev pub going_on : Reading Found → Reading Found
 going_on (Done (Ok block)) = next_block block.time
 going_on (Done (Err bad)) = Done (Err bad)
 going_on (Faulty fault) = Faulty fault
 going_on (Want more) = Want more
 
--- The whole blocks of bytes that go on so, in order.
+-- The blocks that are whole in these bytes, in order, where reading stands at `now` before them.
 abbrev pub blocks_from : Reading Found → List ℕ → List Block
 blocks_from now [] = []
 blocks_from now (b ∷ bs) = found (step now b) ++ blocks_from (going_on (step now b)) bs
 
--- How reading goes on after them: a block that is begun, or why the recording can't be read on.
+-- How reading stands after these bytes: inside a block, or at why the recording can't be read on.
 abbrev pub rest_from : Reading Found → List ℕ → Reading Found
 rest_from now [] = now
 rest_from now (b ∷ bs) = rest_from (going_on (step now b)) bs

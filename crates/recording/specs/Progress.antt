@@ -28,11 +28,11 @@ ahead p = after (form_of p.last) p.begun
 abbrev pub told_len : List ℕ → ℕ
 told_len begun = from_be_bytes w32 (take 4 begun)
 
--- Where the data of so many bytes end in a block, with their padding.
+-- At which place of a block its time begins, where its data have so many bytes.
 abbrev pub time_place : ℕ → ℕ
 time_place len = 4 + len + padding_len len
 
--- How many bytes of a block are wanted before it is looked at again: its length, and then all of it.
+-- At how many bytes a block is looked at: at the end of its length, and then at its own end.
 abbrev pub block_end : List ℕ → ℕ
 block_end begun = if nat_lt (length begun) 4 then 4 else (if nat_lt LONGEST_READ (told_len begun) then 4 else time_place (told_len begun) + 4)
 
@@ -77,8 +77,8 @@ shown (Err bad) = Err bad
 
 -- ---- what was read, whatever calls of the reader there were
 
--- The bytes fed so far hold the blocks that were taken from the reader, and the one that waits to be taken, if any. How
--- the bytes go on is how the reader does.
+-- The whole blocks of the bytes fed so far are those that were taken from the reader, and then the one that waits to be
+-- taken, if any. The reader stands where reading these bytes leads.
 pub record HasRead (fed : List ℕ) (taken_blocks : List Block) (now : Reading Found) : Type 0 where
   pub blocks : blocks_in fed ≡ taken_blocks ++ found now
   pub rest : rest_of fed ≡ going_on now

@@ -64,7 +64,7 @@ fn time_of(begun: &[u8], len: usize) -> u32
     number(end)
 }
 
-/// Where a block is to be looked at again, of which these bytes have come: at the end of its length, or at its own.
+/// At how many bytes a block that begins so is looked at: at the end of its length, and then at its own end.
 fn block_end(begun: &[u8]) -> usize
     ensures value { result ≡ block_end begun.now }
     ensures least { 4 ≤ result }
@@ -79,8 +79,8 @@ fn block_end(begun: &[u8]) -> usize
     NUMBER_LEN + len + padding_len(len) + NUMBER_LEN
 }
 
-/// The block that these bytes are, after one of the time `last`. They are at least its length, and all of it where that
-/// is within the bound.
+/// The block that these bytes spell, where the block before has the time `last`. They are at least the block's length,
+/// and where that is within the bound, all of the block.
 fn judge_block(last: u32, begun: &[u8]) -> Result<Block<'_>, BadRecording>
     requires head { 4 ≤ length begun.now }
     requires whole { told_len begun.now ≤ LONGEST_READ

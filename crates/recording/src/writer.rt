@@ -127,7 +127,7 @@ impl RecordingWriter {
     }
 
     /// Spells the block that waits at the front of `out`, leaves what follows it, and answers how many bytes it has, at
-    /// most 65,544. Where nothing waits there is no block. Nothing waits then.
+    /// most 65,544; where none waits, no byte. After that no block waits.
     pub fn flush(&mut self, out: &mut [u8]) -> usize
         requires { LONGEST_SPELLING ≤ length out.old }
         ensures written { Writes (blocks_bytes (as_blocks self.old)) out.old out.new result }

@@ -1,4 +1,4 @@
--- Of which recordings an index is one (own).
+-- To which recordings an index belongs (own).
 use Rattle.std.specs.Prelude.{◌≡◌, List, ◌∷◌, ◌++◌, length, All}
 use Rattle.recording.specs.Recording.{Block, recording_bytes}
 use Rattle.recording_index.specs.IndexBytes.{AreMoments}
@@ -16,7 +16,8 @@ pub record IsAt (blocks : List Block) (m : KeyMoment) : Type 0 where
   pub all : blocks ≡ earlier ++ block ∷ later
   pub is : m ≡ moment_before earlier block
 
--- The index is one of this recording: each of its key moments is where a block begins, whose time it has.
+-- The index belongs to this recording: each of its key moments has the place at which a block begins, and the time of
+-- that block.
 pub record IsIndexOf (moments : List KeyMoment) (blocks : List Block) : Type 0 where
   pub in_order : AreMoments moments
   pub each : All (IsAt blocks) moments

@@ -48,8 +48,8 @@ pub fn key_moments_lead_to_blocks()
         ≡ at.block ∷ at.later }
 {}
 
-/// How an index is made: it begins with no key moment, it stays one of the recording where blocks are added, and the
-/// key moment at which a next block begins is added behind the others.
+/// How an index is made. It begins with no key moment. Where blocks are added to a recording, the index still belongs
+/// to it. Where a next block is added, the key moment at which that block begins may be added behind the others.
 pub fn key_moments_are_added()
     ensures begins { (blocks : List Block) → IsIndexOf [] blocks }
     ensures stays { (moments : List KeyMoment) (blocks more : List Block) → IsIndexOf moments blocks

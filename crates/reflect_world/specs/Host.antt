@@ -42,9 +42,9 @@ waiting_list (Some patch) = patch.update ∷ []
 abbrev pub with_past : List Update → Reading ServerMessage → List ℕ → List Update
 with_past past form bytes = past ++ updates_by form bytes
 
--- The host's bytes were read but for the unread ones. The updates of the hosts before it, followed by those that the
--- bytes read spell, come to the same, from the opening screen on, as us followed by the update that waits. The decoder
--- goes on as the rest after the bytes read, over the screen that those updates show.
+-- All of the host's bytes were read except the unread ones. Two lists of updates have the same effect from the opening
+-- screen on: those of the hosts before and then those of the bytes read; and `us` and then the update that waits. The
+-- decoder stands where reading these bytes leads, over the screen that the first list has made.
 pub record HasReadTo (past : List Update) (bytes : List ℕ) (us : List Update) (host : HostSide) : Type 0 where
   pub read : List ℕ
   pub split : bytes ≡ read ++ host.unread
@@ -59,14 +59,13 @@ HostStands past bytes us host = ((is_refused host.decoder.state ≡ true) × (ho
 abbrev pub CanRead : HostSide → Type 0
 CanRead host = (past : List Update) × (bytes : List ℕ) × (us : List Update) × HostStands past bytes us host
 
--- The hosts' bytes spell as many updates as there are in us and no more, and this is the fault at which they stand, if
--- there is one.
+-- The hosts' bytes have just as many updates as `us`, and stand at this fault, if there is one.
 pub record IsReadOut (past : List Update) (bytes : List ℕ) (us : List Update) (form : Reading ServerMessage) (fault : Option Fault) : Type 0 where
   pub none_left : length (with_past past form bytes) ≡ length us
   pub stands_at : fault_of (rest form bytes) ≡ fault
 
--- The next update was read; or there is none, with or without a fault; or memory was refused. If the old side stood for
--- some bytes and updates, the new one stands for the same, with the update that was read.
+-- The next update was read; or there is none, with or without a fault; or memory was refused. Whatever bytes and
+-- updates the old side stood for, the new one stands for the same, with the update that was read.
 abbrev pub ReadsOn : HostSide → HostSide → Result (Option SizedUpdate) Fault → Type 0
 ReadsOn old new (Ok (Some patch)) = (past : List Update) (bytes : List ℕ) (us : List Update) → HostStands past bytes us old → HasReadTo past bytes (us ++ patch.update ∷ []) new
 ReadsOn old new (Ok None) = (past : List Update) (bytes : List ℕ) (us : List Update) → HostStands past bytes us old → HasReadTo past bytes us new × IsReadOut past bytes us (form_of new) None
@@ -74,8 +73,8 @@ ReadsOn old new (Err fault) =
     (past : List Update) (bytes : List ℕ) (us : List Update) → HostStands past bytes us old
     → HostStands past bytes us new × ((fault ≡ Memory) ⊎ IsReadOut past bytes us (form_of new) (Some fault))
 
--- The next host begins, once the old one was read to its end without a fault. If the old side stood for some bytes and
--- updates, the new one stands for a next host that has sent nothing, after a switch to black, which waits to be put.
+-- The next host begins, once the old one was read to its end without a fault. Whatever bytes and updates the old side
+-- stood for, the new one stands for a next host that has sent nothing, after a switch to black, which waits to be put.
 abbrev pub BeginsNext : HostSide → HostSide → Type 0
 BeginsNext old new =
     (past : List Update) (bytes : List ℕ) (us : List Update) → HasReadTo past bytes us old → IsReadOut past bytes us (form_of old) None

@@ -45,7 +45,7 @@ pub record LeavesAllowed (s : Setup) (before es : List Step) (v : ℕ) (p : View
   pub begins : Begins sent (allowed p.role (messages_in p.entries) true)
   pub whole : length (play s es).queue + length (leaves_behind v p) ≤ s.room → sent ≡ allowed p.role (messages_in p.entries) true
 
--- A stay of a viewer that joined in this role after these steps and hasn't left since. The viewer is there; and its
+-- A stay of a viewer that joined in this role after the steps `before` and hasn't left since. The viewer is there. Its
 -- inputs that were relayed since, followed by the one that waits, are all that is allowed of its messages.
 pub record StaysAllowed (s : Setup) (before es : List Step) (v : ℕ) (role : Role) : Type 0 where
   pub viewer : Viewer

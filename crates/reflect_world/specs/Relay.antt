@@ -22,7 +22,7 @@ pub record RelaySide : Type 0 where
   pub taken : List Relayed
   pub spare : ℕ
 
--- The inputs that the host is sent of those that were taken.
+-- Which of these inputs, all of which were taken, the host is sent.
 abbrev pub inputs_told : List Relayed → List Input
 inputs_told taken = map (λ (it : Taken). it.input) (told_of taken)
 
@@ -31,7 +31,7 @@ pub record KeepsStrokes (strokes : StrokesKept) (taken : List Relayed) : Type 0 
   pub stands : StrokesStand strokes (map taken_from taken)
   pub counts : length strokes.counts ≡ 65
 
--- An input was taken after these. Its spelling was added where it passes.
+-- An input was taken after these. Its spelling was added to what the host is sent, where the input passes.
 pub record Tells (taken : List Taken) (t : Taken) (strokes_new : StrokesKept) (out_old out_new : List ℕ) : Type 0 where
   pub said : out_new ≡ out_old ++ (if passes_after (unbroken taken) t then input_bytes t.input else [])
   pub stands : StrokesStand strokes_new (taken ++ t ∷ [])

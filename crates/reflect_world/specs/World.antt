@@ -41,7 +41,8 @@ step_of (code.Written viewer count) = Written viewer count
 step_of (code.Send viewer) = Send viewer
 step_of code.Take = Take
 
--- The same step with marks for the texts of a viewer that it completed. Each says whether the text found no memory.
+-- The same step, with a mark for each text of a viewer that it completed. The mark says whether the text found no
+-- memory.
 abbrev pub step_with : declared_step.Step → List Bool → Step
 step_with (code.HostBytes bytes) lost = HostBytes bytes.items
 step_with code.Put lost = Put
@@ -67,8 +68,8 @@ entry_of (kept.Played step lost) = step_with step lost.items
 
 -- ---- what contracts see of a world
 
--- The size and the name of its screen, the room for inputs, the form in which its viewers are answered, its schedule, and
--- whether a step was refused for want of memory.
+-- The size and the name of its screen, the room for inputs, the form in which its viewers are answered, its schedule,
+-- and whether a step was refused for want of memory.
 pub record Kept : Type 0 where
   pub width : ℕ
   pub height : ℕ
@@ -116,8 +117,8 @@ abbrev pub waits_at : Option Held → Bool
 waits_at None = false
 waits_at (Some place) = is_some place.session.waiting
 
--- A place stands for a viewer. Its last cut, if there was one, counted the Bells of the first of these updates. Where
--- its last step was a look, it is ready to go on with the turn.
+-- A place stands for a viewer. If there was a cut, the last one was of the screen after the first of these updates, and
+-- the session has counted the Bells among them. Where its last step was a look, it is ready to go on with the turn.
 pub record PlaceStands (s : Setup) (us : List Update) (place : Held) (p : Viewer) : Type 0 where
   pub session : Stands s place.session (at_rest p)
   pub unread : place.unread ≡ p.unread
@@ -139,8 +140,8 @@ pub record PlaceShows (s : Setup) (place : Held) (p : Viewer) : Type 0 where
   pub fault : fault_in place.session ≡ viewer_fault p
   pub written : place.written ≡ take p.written (out_bytes s p)
 
--- What is seen of the fields is what the schedule has come to: the updates put come to the same as those of the
--- schedule. This stays true where memory was refused in the middle of a step.
+-- What is seen of the fields is what the schedule has come to; the updates that were put have the same effect as those
+-- of the schedule. This stays true even where memory was refused in the middle of a step.
 pub record Shows (s : Setup) (standing : Standing) (w : World) : Type 0 where
   pub size : IsScreenSize s.w s.h
   pub width : standing.screen.width ≡ s.w
@@ -190,7 +191,7 @@ pub record ReadsMore (old new : Held) (before after : List Bool) : Type 0 where
   pub feeding : IsFeeding old.session new.session marks old.unread new.unread
   pub counted : (us : List Update) → HasCounted old.session us → HasCounted new.session us
 
--- The viewer looked at the tally, if it might.
+-- The viewer looked at the tally, if it may look.
 pub record HasLooked (old new : Held) (tally : ℕ) : Type 0 where
   pub others : new ≡ record old { looked = if is_ready old.session then Some tally else None }
   pub stands : (s : Setup) (p : Viewer) → Stands s old.session p → is_ready old.session ≡ may_look s p
@@ -261,7 +262,7 @@ has_waiting (Some p) = is_some p.waiting
 abbrev pub TakesStep : Step → Standing → Standing → Type 0
 TakesStep e old new = (s : Setup) (w : World) → Reached s old w → Reached s new (happens s w e)
 
--- The same as TakesStep, over a screen of this name whose viewers are answered in this form, and told of no sizes.
+-- The same as TakesStep, for a screen with this name, whose viewers are answered in this form and are told of no sizes.
 abbrev pub JoinsUnder : List ℕ → Runs → Step → Standing → Standing → Type 0
 JoinsUnder name runs e old new = (s : Setup) (w : World) → s.name ≡ name → s.runs ≡ runs → s.host ≡ None → s.zrle ≡ false → Reached s old w → Reached s new (happens s w e)
 
@@ -273,12 +274,13 @@ StaysFor old new = (s : Setup) (w : World) → Reached s old w → Reached s new
 abbrev pub StaysSeen : Standing → Standing → Type 0
 StaysSeen old new = (s : Setup) (w : World) → Reached s old w → Shows s new w
 
--- The new fields still show what the old ones stood for; and they stand for it where the fault is NumbersOut.
+-- Where a step failed with this fault: the new fields still show the world that the old ones stood for, and after
+-- NumbersOut they still stand for it.
 abbrev pub Leaves : Standing → Standing → Fault → Type 0
 Leaves old new fault = StaysSeen old new × (fault ≡ NumbersOut → StaysFor old new)
 
--- If the old fields showed a world, the new ones show what this step makes of it, over a screen of this name whose
--- viewers are answered in this form, and told of no sizes.
+-- If the old fields showed a world, the new ones show what this step makes of it, for a screen with this name, whose
+-- viewers are answered in this form and are told of no sizes.
 abbrev pub ShowsUnder : List ℕ → Runs → Step → Standing → Standing → Type 0
 ShowsUnder name runs e old new = (s : Setup) (w : World) → s.name ≡ name → s.runs ≡ runs → s.host ≡ None → s.zrle ≡ false → Shows s old w → Shows s new (happens s w e)
 

@@ -80,7 +80,7 @@ impl Relay {
         self.sent.as_slice()
     }
 
-    /// How many inputs that were taken of a viewer didn't pass to the host.
+    /// How many inputs of a viewer were dropped on their way to the host.
     pub(crate) fn dropped(&self, viewer: u64) -> u64
         requires { viewer < 65 }
         ensures { result ≡ dropped viewer (map taken_from self.now.taken) }
@@ -113,8 +113,8 @@ impl Relay {
         };
     }
 
-    /// Takes the input that has waited longest, if there is one. It goes to the host where it passes after those taken
-    /// before. Where memory is refused (`Memory`) nothing has changed.
+    /// Takes the input that has waited longest, if there is one. Where it passes, given the inputs taken before, its
+    /// spelling goes to the host. Where memory is refused (`Memory`) nothing has changed.
     pub(crate) fn take(&mut self) -> Result<(), Fault>
         ensures ok { OnOk result (TakesFirst self.old self.new) }
         ensures err { IfErr result (λ fault. (fault ≡ Memory) × (self.new ≡ self.old)) }
@@ -134,8 +134,8 @@ impl Relay {
     }
 }
 
-/// Adds the spelling of an input of a viewer, where it passes after those taken before. Where memory is refused nothing
-/// has changed.
+/// Adds the spelling of an input of a viewer, where the input passes, given those taken before. Where memory is refused
+/// nothing has changed.
 fn tell(strokes: &mut Strokes, viewer: u64, input: &Input, out: &mut Vec<u8>) -> Result<(), Fault>
     ensures ok { OnOk result ((taken : List Taken) → StrokesStand strokes.old taken
         → Tells taken (input_from viewer (input_in input.now)) strokes.new

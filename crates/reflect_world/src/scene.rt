@@ -179,7 +179,7 @@ impl Scene {
         self.relay.sent()
     }
 
-    /// How many inputs that were taken of a viewer didn't pass to the host.
+    /// How many inputs of a viewer were dropped on their way to the host.
     pub(crate) fn dropped(&self, viewer: u64) -> u64
         requires { viewer < 65 }
         ensures { result ≡ dropped viewer (map taken_from self.now.relay.taken) }
@@ -384,8 +384,8 @@ impl Scene {
     }
 }
 
-/// Adds to the queue, as far as there is room, what goes to the host of a viewer that leaves. Memory for it has to be
-/// taken before.
+/// Puts what goes to the host of a viewer that leaves at the end of the queue, as far as there is room. Memory for it
+/// has to be taken before.
 fn relay_left(viewer: u64, place: &mut Place, room: u64, relay: &mut Relay)
     requires { length (left_by place.old) ≤ relay.old.spare }
     ensures queue { relay.new.queue ≡ relay.old.queue

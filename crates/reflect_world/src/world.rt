@@ -191,7 +191,7 @@ impl World {
         self.scene.host_sent()
     }
 
-    /// How many inputs that were taken of a viewer didn't pass to the host, in all stays under this number. A count at
+    /// How many inputs of a viewer were dropped on their way to the host, in all stays under this number. A count at
     /// 2^62 stays there.
     pub fn dropped(&self, viewer: u64) -> u64
         requires { viewer ≤ 64 }
@@ -224,7 +224,7 @@ impl World {
         self.scene.queued()
     }
 
-    /// Takes one step, for whose entry and marks there is room first.
+    /// Takes one step. Room for its entry and its marks is made first.
     fn step(&mut self, step: &Step) -> Result<(), Fault>
         requires { self.old.is_refused ≡ false }
         ensures ok { OnOk result ((e : played.Step) × (unmarked e ≡ step_of step.now)

@@ -1,4 +1,4 @@
--- What a run was, for whoever is handed what shows that it was run (own).
+-- What a run was, for a caller that is handed only what shows that there was a run (own).
 use Rattle.std.specs.Prelude.{◌≤◌, ℕ, false, List, [], Option, None, Ok, ⊤}
 use Rattle.raster.specs.Update.{Update}
 use Rattle.rfb_wire.specs.Handshake.{Joined}
@@ -14,10 +14,11 @@ use Rattle.host_turns.specs.Running.{Coming, HasRun, came_over}
 use Rattle.reflector.specs.Tellings.{AreToldInTurn}
 
 -- A run, without the types of its links, hosts and doors: the first host, as it was joined; the size of the room, which
--- viewers are told; the form in which all viewers are answered; the roles of the places, in order; how the last host
--- has ended; how the first host came, over the link that it was read of, after its join; the links of the hosts that
--- were read, as they were left; the links over which the hosts were told, each as it came and then as it was left; the
--- input that was taken of the places; and the updates that were put.
+-- viewers are told; the password that hosts may ask for; the form in which all viewers are answered; the roles of the
+-- places, in order; how the last host has ended; whether the first host had called, and the state of the link that it
+-- was read from, after its join; the links of the hosts that were read, as they were left; the links over which the
+-- hosts were told, each first as it came and then as it was left; the input that was taken from the places; and the
+-- updates that were put.
 pub record Course : Type 0 where
   pub host : Joined
   pub room_width : ℕ
@@ -32,10 +33,10 @@ pub record Course : Type 0 where
   pub taken : List Message
   pub updates : List Update
 
--- The first host was joined with the password over the link that it was read of then, and its screen fits into the
--- room. The updates are exactly those of what the links of the hosts took after their joins, in turn, over the room,
--- with a switch to black between two hosts. And the hosts were told one after another, each a beginning of what is said
--- for the input that was taken for it.
+-- The first host was joined with the password, over the link that it was read from afterwards, and its screen fits into
+-- the room. The updates are exactly those of what the hosts' links took after their joins, in turn, over the room, with
+-- a switch to black between two hosts. And the hosts were told one after another: each was given a beginning of what is
+-- said for the input that was taken for it.
 pub record IsReflected (course : Course) : Type 0 where
   pub joins : ∥ Joins course.password unused course.came.link course.host ∥₁
   pub fits : (course.host.w ≤ course.room_width) × (course.host.h ≤ course.room_height)

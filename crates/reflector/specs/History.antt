@@ -6,7 +6,8 @@ use Rattle.viewer_session.specs.Acts.{Act, Bytes, Turn, Written, Passed}
 
 -- A list of acts has the latest first.
 
--- The looks and cuts of these acts, in order, with their replies: a cut shows the first of the updates.
+-- The looks and cuts of these acts, in order, each with its reply. The reply of a cut is what can be shown after the
+-- first updates, as many as the cut's number says.
 abbrev pub own_steps : List Update → List Act → List Step
 own_steps us [] = []
 own_steps us (Bytes marks bytes ∷ acts) = own_steps us acts

@@ -8,8 +8,8 @@ use Rattle.run_traits.specs.Unused.{unused}
 use Rattle.host_writer.specs.Writing.{Did, Tells, all_taken, said, taken_in}
 use Rattle.input_relay.specs.declared.queue.Message.{Message}
 
--- How telling the hosts stands between two of them: the links so far, each as it came and then as it was left; the
--- source that is looked at; the input that was taken of the relay so far; and the strokes.
+-- What telling the hosts has come to, between two of them: the links so far, each first as it came and then as it was
+-- left; the source that is looked at; the input that was taken from the relay so far; and the strokes.
 pub record Desk (S : Type 0) : Type 0 where
   pub links : List LinkState
   pub source : S
@@ -19,7 +19,7 @@ pub record Desk (S : Type 0) : Type 0 where
 abbrev pub desk : {S : Type 0} → List LinkState → S → List Message → StrokesKept → Desk S
 desk links source taken strokes = record { links = links; source = source; taken = taken; strokes = strokes }
 
--- One more host was told, over one more link, which came unused, and was given what Tells says.
+-- One more host was told, over one more link, which came unused. What that link was given is as Tells says.
 pub record Telling {S : Type 0} (looks : S → ℕ → S → Type 0) (width height : S → ℕ) (old new : Desk S) : Type 0 where
   pub came : LinkState
   pub left : LinkState
@@ -52,8 +52,9 @@ pub record TellsHosts {S : Type 0} (looks : S → ℕ → S → Type 0) (width h
 
 -- ---- in plain words
 
--- Where this input was taken before, a host was told what is said for these acts, the inputs that pass and the
--- requests, or a beginning of that, and nothing before it. The host's link came and was left so.
+-- A host was told, before which these inputs had been taken. Over its link, which came unused, it was given a beginning
+-- of what is said for these acts, and nothing else: the spellings of the inputs that pass, and the requests. No byte
+-- was taken over that link.
 pub record IsToldOver (w h : ℕ) (before : List Taken) (did : List Did) (came left : LinkState) : Type 0 where
   pub given : List ℕ
   pub gave : left.given ≡ came.given ++ given
@@ -61,8 +62,8 @@ pub record IsToldOver (w h : ℕ) (before : List Taken) (did : List Did) (came l
   pub heard : left.taken ≡ came.taken
   pub fresh : came ≡ unused
 
--- One host after another was told in this way, over these links, each as it came and then as it was left. The input
--- taken is divided between the hosts: no host is told anything that was taken for another.
+-- One host after another was told as IsToldOver says, over these links, each first as it came and then as it was left.
+-- The input taken is divided between the hosts: no host is told anything that was taken for another.
 abbrev pub AreToldInTurn : (w h : ℕ) → List Taken → List LinkState → List Message → Type 0
 AreToldInTurn w h before [] taken = taken ≡ []
 AreToldInTurn w h before (came ∷ []) taken = ⊥

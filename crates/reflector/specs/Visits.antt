@@ -28,8 +28,8 @@ abbrev pub name_of : List ℕ → List ℕ
 name_of [] = 114 ∷ 101 ∷ 102 ∷ 108 ∷ 101 ∷ 99 ∷ 116 ∷ 111 ∷ 114 ∷ 100 ∷ []
 name_of (b ∷ bs) = b ∷ bs
 
--- A screen of this size and name, whose viewers are answered in this form, and told of the host's sizes, of which this
--- is the first.
+-- A screen of this size and name, whose viewers are answered in this form. They are told of the host's sizes, the first
+-- of which is this one.
 abbrev pub setup_of : ℕ → ℕ → List ℕ → AnswerForm → Size → Setup
 setup_of w h name form host = record { w = w; h = h; name = name; room = 0; runs = form.runs; host = Some host; zrle = form.zrle }
 

@@ -42,15 +42,15 @@ impl InputCounts {
         }
     }
 
-    /// How many inputs of all places were taken for the hosts and not told: those that another place's stroke kept out,
-    /// releases of keys that weren't down, and presses of one key too many. No clause says that this number is up to
-    /// date; the one that a run hands back is (`Running`).
+    /// How many inputs of all places were dropped: those that another place's stroke kept out, releases of keys that
+    /// weren't down, and presses of one key too many. No clause says that this number is up to date; the one that a run
+    /// hands back is (`Running`).
     pub fn dropped(&self) -> u64 {
         self.dropped.load(Ordering::SeqCst)
     }
 }
 
-/// The number of inputs that weren't told, as the thread that tells the hosts counts them, and where others read it.
+/// The number of dropped inputs, as the thread that tells the hosts counts them, and the place where others read it.
 #[derive(Drop)]
 pub(crate) struct Untold {
     pub(crate) count: u64,
@@ -58,7 +58,7 @@ pub(crate) struct Untold {
 }
 
 impl Untold {
-    /// A count of 0, which others read at this watch.
+    /// A count of 0, which others read in these counts.
     pub(crate) fn new(watch: Arc<InputCounts, Global>) -> Untold
         ensures { result.count ≡ 0 }
     {

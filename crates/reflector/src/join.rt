@@ -19,11 +19,11 @@ use shared_screen::{Naming, Publisher, Publishes, Watcher};
 use std::sync::Wait;
 use std::thread::Threads;
 
-/// Waits for a place of a run, and lets its watcher meet the run's publisher.
+/// Waits for a place of a run to end, and lets its watcher meet the run's publisher.
 ///
-/// What the place's watcher knew before begins what it knows then, and so do the publisher's updates; the longer of
-/// these two is all that it knows. Over this list each viewer that the place's door let in was served whole screens in
-/// the place's role, one viewer after another, and no more was sent of its input than the role allows
+/// The updates that the place's watcher knew before begin those that it knows then, and so do the publisher's; the
+/// longer of these two lists is all that it knows. Over this list each viewer that the place's door let in was served
+/// whole screens in the place's role, one viewer after another, and no more of its input was sent than the role allows
 /// (`IsServedWhole`). Where the viewers only look on, the sender has sent nothing. Each look and each cut of these
 /// visits is a step of the watcher's history (`IsReceived`).
 pub fn join_place<J, D, R>(

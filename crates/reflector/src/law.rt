@@ -22,8 +22,8 @@ use reflect_core::ScreenSource;
 use roles::InputSink;
 use run_traits::Door;
 
-/// All visits of a place are of one list: what the place's source knew before each of them begins what it knows in the
-/// end.
+/// All visits of a place are of one list of updates: what the place's source knew before a visit begins what it knows
+/// in the end.
 pub fn visits_are_of_one_list<S: ScreenSource, K: InputSink, D: Door, F: StopFlag>()
     ensures { (stop : F) (s : Setup) (role : roles.Role)
         (old : At D S) (befores : List (At D S)) (last : At D S)
@@ -43,9 +43,10 @@ pub fn visits_keep_the_promise<S: ScreenSource, K: InputSink, D: Door, F: StopFl
         → KeepsPromise D.lets_in D.sees_off S.known s role old new }
 {}
 
-/// Where the door of a place keeps a trail of its viewers' links, the visits of the place are over those links: the trail
-/// of the door that is given back goes on with two links for each visit, the link as it came, unused, and then as it was
-/// left. This is so of what was done in each visit, and of the promise that is kept.
+/// Where the door of a place keeps a trail of its viewers' links, the place's visits are over the links of that trail.
+/// When the door is given back, its trail has two links more for each visit: the link as it came, unused, and the link
+/// as it was left. It is so of what was done for each viewer (`received`), and of the promise that was kept to it
+/// (`whole`).
 pub fn visits_are_over_the_links_of_the_trail<S: ScreenSource, K: InputSink, D: Door, F: StopFlag>()
     ensures received { (trail : D → List LinkState) (stop : F)
         (s : Setup) (role : roles.Role) (old new : At D S)

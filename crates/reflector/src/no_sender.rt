@@ -10,7 +10,7 @@ use roles::{Input, InputSink};
 use std::snapshot::Snapshot;
 use std::sync::Wait;
 
-/// A sink that takes no input. It has been sent what the sender of its place had been sent, which can't change.
+/// A sink that takes no input. What counts as sent to it is what the sender of its place had sent, which can't change.
 #[derive(Drop)]
 pub(crate) struct NoSender<R: Wait + Drop> {
     of: Snapshot<Sender<R>>,

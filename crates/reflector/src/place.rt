@@ -47,11 +47,11 @@ pub struct Place<S, D, R: Wait + Drop> {
     pub sender: Sender<R>,
 }
 
-/// The promise that a place gives back the door, the watcher and the sender that it began with, after its visits: each
-/// viewer that the door let in was served in turn, in this role and form, over a screen of this size and name, and told
-/// of the host's sizes, of which this is the first (`IsReceived`). So the place keeps the promise of the program: all
-/// of its viewers were shown whole screens of one list, and no more of their input went on than the role allows
-/// (`KeepsPromise`).
+/// The promise of a place's thread: it gives back the door, the watcher and the sender that it began with, after the
+/// place's visits. Each viewer that the door let in was served in turn, in this role and form, over a screen of this
+/// size and name, and was told of the host's sizes, the first of which is this one (`IsReceived`). So the place keeps
+/// the promise of the program: all of its viewers were shown whole screens of one list, and no more of their input went
+/// on than the role allows (`KeepsPromise`).
 #[derive(Drop)]
 pub struct OfPlace<S, D, R: Wait + Drop> {
     pub role: Role,
@@ -102,8 +102,8 @@ impl<R: Clock + Drop> Rest for Nap<R> {
     }
 }
 
-/// Serves one viewer after another, until no more come or the flag is set. It is lent nothing that matters but the
-/// place, and then the visit of each viewer.
+/// Serves one viewer after another, until no more come or the flag is set. Of what matters it is lent the place alone,
+/// and then the visit of each viewer.
 fn serve_viewers<'a, D, S, K, F, T, Z, R>(
     rt: &R,
     place: FreePlace<'a, D, S, K, F, T>,

@@ -6,8 +6,8 @@ ghost use Rattle.reflector.specs.Course.{Course};
 
 use std::marker::{Brand, Model, PhantomData};
 
-/// Shows that a run was run, since only `run_all` hands it out: clauses read what the run was (`course`). At run time
-/// it has no bytes.
+/// Shows that a run was run: only `run_all` hands one out. Clauses read what the run was (`course`). At run time it has
+/// no bytes.
 #[derive(Drop)]
 pub struct Ran {
     marker: PhantomData<u8>,
@@ -33,7 +33,7 @@ impl Told for Brand {
 }
 
 impl Ran {
-    /// Shows that a run was run which was so as `C` names it.
+    /// Shows that there was the run that `C` names.
     pub(crate) fn new<C: Told>() -> Ran
         ensures { result.course ≡ C.course }
     {

@@ -28,9 +28,9 @@ pub(crate) struct HostsRead<L: Link, H: Hosts<L>, P: Drop> {
     pub(crate) publisher: P,
 }
 
-/// The promise that this link was read to its end, and then the links of further hosts in turn, and that what they
-/// brought was put to this publisher. Where the first host has its turn again, the thread ended only with an end
-/// of a host after which no other is taken.
+/// The promise of the thread that reads the hosts: this link was read to its end, then the links of further hosts in
+/// turn, and the updates that they brought were put to this publisher. Where the first host has its turn again, the
+/// thread ended only because a host ended in such a way that no other is taken.
 #[derive(Drop)]
 pub(crate) struct OfHosts<L: Link, H: Hosts<L>, P: Puts> {
     pub(crate) width: u64,

@@ -58,9 +58,9 @@ pub struct Running<L, H, P, S: ScreenSource, D: Door, R: Wait + Drop> {
     pub written: Written<L>,
     /// What took the viewers' input.
     pub taker: Taker<R>,
-    /// Whose key or button is down after what was taken, and how many inputs of each place weren't told.
+    /// Whose key or button is down after all that was taken, and how many inputs of each place were dropped.
     pub strokes: Strokes,
-    /// How many inputs of all places weren't told.
+    /// How many inputs of all places were dropped.
     pub dropped: u64,
     /// The places, by their numbers. Each is still to be joined, and then gives back its watcher and its sender.
     pub places: Vec<PlaceHandle<S, D, R>>,

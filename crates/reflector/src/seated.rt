@@ -10,8 +10,8 @@ use roles::{Input, InputSink};
 use std::marker::{Brand, PhantomData};
 use std::sync::Wait;
 
-/// Names a sender: its relay, and its place there. A sink of that name stays that sender, whatever it is lent to. No
-/// value of such a type is ever made. It isn't the seat at which a place's thread waits (`connections::Seat`).
+/// Names a sender: its relay, and its place there. A sink with that name stays the same sender, whatever it is lent to.
+/// No value of such a type is ever made. It isn't the seat at which a place's thread waits (`connections::Seat`).
 pub(crate) trait Seat {
     ghost use Rattle.std.specs.Prelude.{ℕ};
     ghost use Rattle.atomic_table.specs.Seated.{TableId};

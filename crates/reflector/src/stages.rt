@@ -1,5 +1,5 @@
-//! The stages of a place: it is free, a viewer was met, or a viewer is there. What a place could do harm with is in
-//! their hands, and their steps take no handle.
+//! The stages of a place: it is free, a viewer was met, or a viewer is there. A stage owns all that a place could do
+//! harm with, and its steps take no handle.
 
 ghost use Rattle.std.specs.Prelude.{◌≡◌, None, true, false, IfOk, IfErr};
 ghost use Rattle.fault.specs.declared.kinds.Fault.TheVariants.{Memory};
@@ -61,9 +61,9 @@ pub struct Key {
 
 /// A place without a viewer: its door, the source of its screens and the sink of its viewers' input.
 ///
-/// While a place has them nobody else does. No step takes a handle, so each is proved to come to its end, as far as the
-/// door, the source and the sink do, and there `lawful` holds again. A `T` is the key that takes a place apart: who is
-/// given a place can't make one.
+/// Only a place's own steps use these while the place has them. No step takes a handle, so each is proved to end where
+/// the calls of the door, the source and the sink end, and `lawful` holds at its end. A `T` is the key that takes a
+/// place apart: whoever is given a place can't make one.
 pub struct FreePlace<'a, D: Door, S: ScreenSource, K: InputSink, F: StopFlag, T: Drop> {
     maker: &'a SessionMaker,
     stop: &'a F,
@@ -189,8 +189,7 @@ impl<'a, D: Door, S: ScreenSource, K: InputSink, F: StopFlag, T: Drop> FreePlace
         }
     }
 
-    /// It does nothing. Its clause says what is true of the place at every moment between two viewers: what its visits
-    /// were.
+    /// It does nothing. Its clause says, at every moment between two viewers, what the place's visits were.
     pub fn so_far(&self)
         ensures { ∥ IsVisiting D.lets_in D.sees_off
             (λ source_old source_new sent_old sent_new why left.
@@ -366,9 +365,9 @@ impl<'a, 'b, D: Door, S: ScreenSource, K: InputSink, F: StopFlag, T: Drop> BusyP
     F,
     T,
 > {
-    /// It does nothing. Its clauses say what is true of the place at every moment while a viewer is there: what its
-    /// visits were before the viewer's own, of which `viewer_server::Visit::so_far` speaks, and that this one's session
-    /// is of the place's role.
+    /// It does nothing. Its clauses say, at every moment while a viewer is there, what the place's visits were before
+    /// this viewer's own, and that this viewer's session is of the place's role. Of this viewer's visit
+    /// `viewer_server::Visit::so_far` speaks.
     pub fn so_far(&self)
         ensures role { ∥ Stands (setup_of self.now.maker.now.width self.now.maker.now.height
             self.now.maker.now.name.items self.now.maker.now.form self.now.maker.now.host)
@@ -399,7 +398,7 @@ impl<'a, 'b, D: Door, S: ScreenSource, K: InputSink, F: StopFlag, T: Drop> BusyP
         }
     }
 
-    /// Sees the viewer off, whose visit ended so.
+    /// Takes the viewer's visit, which ended with `why`, and has the door see the viewer off.
     pub fn close(
         self,
         visit: Visit<'b, D::Viewer, S, K, Key>,

@@ -1,5 +1,5 @@
-//! The teller, which tells one host after another: no host is told now, or one is. What it could do harm with is in its
-//! hands, and its steps take no handle.
+//! The teller, which tells one host after another: no host is told now, or one is. It owns all that it could do harm
+//! with, and its steps take no handle.
 
 ghost use Rattle.std.specs.Prelude.{◌≡◌, ℕ, ⊤, List, [], ◌∷◌, ◌++◌};
 ghost use Rattle.raster.specs.Size.{IsScreenSize};
@@ -64,12 +64,12 @@ pub struct TellerKey {
     only_here: (),
 }
 
-/// A teller between two hosts: the source of the looks, what inputs are taken of and judged by, the count of those that
-/// aren't told, and the links over which hosts were told.
+/// A teller between two hosts: the source of the looks, what inputs are taken from, the strokes by which they are
+/// judged, the count of those that are dropped, and the links over which hosts were told.
 ///
-/// While the teller has them nobody else does. No step takes a handle, so each is proved to come to its end, as far as
-/// the source and the taker do, and there `counted` and `lawful` hold again. A `T` is the key that takes a teller
-/// apart: who is given a teller can't make one.
+/// Only a teller's own steps use these while the teller has them. No step takes a handle, so each is proved to end
+/// where the calls of the source and the taker end, and `counted` and `lawful` hold at its end. A `T` is the key that
+/// takes a teller apart: whoever is given a teller can't make one.
 pub struct FreeTeller<'a, L: Link, S: ScreenSource, K: InputSource, D: DropCount, T: Drop> {
     source: S,
     taker: K,
@@ -145,12 +145,12 @@ impl<'a, L: Link, S: ScreenSource, K: InputSource, D: DropCount, T: Drop> FreeTe
         }
     }
 
-    /// It does nothing. Its clauses say what is true of the teller at every moment between two hosts: what the hosts
-    /// were told, over which links, and that what didn't pass is counted.
+    /// It does nothing. Its clauses say, at every moment between two hosts, what the hosts were told and over which
+    /// links, and that every dropped input is counted.
     ///
-    /// In plain words (`in_turn`), where nothing was taken at first: each host so far was given a beginning of the
-    /// spellings of the inputs taken for it that pass, each once and in order, and of requests, from the moment on at
-    /// which its link was made.
+    /// In plain words (`in_turn`), where nothing was taken at first: since its link was made, each host so far was
+    /// given a beginning of what is said to it, and nothing else. What is said is the spelling of each input that was
+    /// taken for it and passes, each once and in order, and requests.
     pub fn so_far(&self)
         ensures told { ∥ HasTold S.looks S.width S.height (desk [] self.now.first.now.source.value
             (K.taken self.now.first.now.taker.value) self.now.first.now.strokes.value)
@@ -247,8 +247,8 @@ impl<'a, 'b, L: Link, S: ScreenSource, K: InputSource, D: DropCount, T: Drop> Bu
     D,
     T,
 > {
-    /// It does nothing. Its clauses say what is true of the teller at every moment while a host is told, of all hosts
-    /// before this one, whose link is the last that was noted. Of this one `host_writer::Telling::so_far` speaks.
+    /// It does nothing. Its clauses say, at every moment while a host is told, what all hosts before this one were
+    /// told; the link of this one is the last that was noted. Of this host `host_writer::Telling::so_far` speaks.
     pub fn so_far(&self)
         ensures fresh { L.state self.now.began.now.link.value ≡ unused }
         ensures told { ∥ ((before : List LinkState)
@@ -262,10 +262,10 @@ impl<'a, 'b, L: Link, S: ScreenSource, K: InputSource, D: DropCount, T: Drop> Bu
             (D.dropped self.now.began.now.drops.value)) ∥₁ }
     {}
 
-    /// It does nothing. Its clauses say what is true at every moment of the teller and of the telling of its host
-    /// together, in plain words: each host so far, and this one, was given a beginning of the spellings of the inputs
-    /// taken for it that pass, each once and in order, and of requests, from the moment on at which its link was made;
-    /// and what didn't pass is counted.
+    /// It does nothing. Its clauses speak, in plain words, of the teller and of the telling of its host together, at
+    /// every moment. Since its link was made, each host so far, and this one, was given a beginning of what is said to
+    /// it, and nothing else: the spelling of each input that was taken for it and passes, each once and in order, and
+    /// requests. And every dropped input is counted.
     pub fn all_so_far(&self, telling: &Telling<'b, L, S, K, D, TellerKey>)
         requires { telling.now.first ≡ self.now.began }
         ensures in_turn { ∥ ((w h : ℕ) → ((s : S) → (S.width s ≡ w) × (S.height s ≡ h))
@@ -283,7 +283,8 @@ impl<'a, 'b, L: Link, S: ScreenSource, K: InputSource, D: DropCount, T: Drop> Bu
         telling.so_far();
     }
 
-    /// Ends the telling of the host, as it was left, and notes the link once more. Nothing is given over it after that.
+    /// Ends the telling of the host, and notes the host's link once more, as it was left. Nothing is given over it
+    /// after that.
     pub fn close(
         self,
         telling: Telling<'b, L, S, K, D, TellerKey>,

@@ -27,7 +27,7 @@ use std::thread;
 use std::thread::{Promise, PromisedHandle, Threads};
 
 /// What telling the hosts came to: the links over which they were told, the taker of the viewers' input, whose key or
-/// button is down after what was taken, and how many inputs of all places weren't told.
+/// button is down after all that was taken, and how many inputs of all places were dropped.
 #[derive(Drop)]
 pub(crate) struct HostsTold<L, R: Wait + Drop> {
     pub(crate) written: Written<L>,
@@ -36,8 +36,8 @@ pub(crate) struct HostsTold<L, R: Wait + Drop> {
     pub(crate) dropped: u64,
 }
 
-/// The promise that the thread gives back the taker with which it began, after one host after another was told what the
-/// taker took, and that every input that wasn't told was counted.
+/// The promise of the thread that tells the hosts: it gives back the taker with which it began, after it told one host
+/// after another what the taker took, and it counted every dropped input.
 #[derive(Drop)]
 pub(crate) struct OfTaker<S, R: Wait + Drop> {
     pub(crate) source: Snapshot<S>,
@@ -66,7 +66,7 @@ pub(crate) type WriterHandle<L, S, R> = PromisedHandle<HostsTold<L, R>, OfTaker<
 /// Tells one host after another, each until it is left or its link ends. The rest of the input goes on to the next
 /// host. A fault of a link isn't answered here, since the reader's link shows it.
 ///
-/// It is given nothing that matters but the teller, and then lent the telling of each host.
+/// Of what matters it is given the teller alone, and then lent the telling of each host.
 fn write<'a, L, W, S, K, D, T, Z, R>(
     rt: &R,
     free: FreeTeller<'a, L, S, K, D, T>,

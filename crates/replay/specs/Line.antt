@@ -63,7 +63,7 @@ Says Input text = text ≡ codes "input"
 Says Next text = text ≡ codes "next"
 Says line text = (rest : List ℕ) × (text ≡ word_of line ++ (blank ∷ rest)) × SaysBehind line rest
 
--- What was read after this word is a line that the text spells, and None where the text spells none.
+-- After this word the text spells the line that was found. Where none was found, it spells none.
 pub record ReadsBehind (word text : List ℕ) (found : Option Line) : Type 0 where
   pub some : IfSome found (λ line. IsInRange line × (word_of line ≡ word) × SaysBehind line text)
   pub none : IfNone found ((line : Line) → IsInRange line → word_of line ≡ word → ¬ SaysBehind line text)

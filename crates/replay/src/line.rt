@@ -40,9 +40,9 @@ pub enum Line<'a> {
     Turn(u64),
     /// A viewer leaves.
     Leave(u64),
-    /// All inputs go to the host, but for those that break into another viewer's stroke.
+    /// All inputs that wait go to the host, except those that break into another viewer's stroke.
     Input,
-    /// The script asks how many inputs of a viewer didn't go to the host.
+    /// The script asks how many inputs of a viewer were dropped.
     Dropped(u64),
     /// The host has ended, and the next one begins.
     Next,

@@ -32,7 +32,7 @@ const ALL: u64 = u64::MAX;
 /// Why a script isn't played to its end.
 #[derive(Drop)]
 enum Stop {
-    /// The line of this number has no valid form, or names a viewer that isn't open, or one to be opened that is open
+    /// The line of this number has no valid form; or it names a viewer that isn't open, or is to open one that is open
     /// already.
     Line(u64),
     /// The reader or the writer failed, the script or one of its lines has no end, or the numbers of updates have run
@@ -334,7 +334,7 @@ fn input<W: Write>(alloc: Global, world: &mut World, output: &mut W) -> Result<b
     Ok(true)
 }
 
-/// Prints how many inputs of a viewer didn't pass to the host, whether the viewer is open or not.
+/// Prints how many inputs of a viewer were dropped, whether the viewer is open or not.
 fn dropped<W: Write>(
     alloc: Global,
     world: &World,

@@ -42,7 +42,7 @@ impl<'a> Act<'a> {
         self.rest.parse::<u64>().ok()
     }
 
-    /// Whether the number says so: 1 for yes, 0 for no.
+    /// Whether the number says the same as `is_so`: 1 for yes, 0 for no.
     pub fn says(&self, is_so: bool) -> bool {
         self.number == u64::from(is_so)
     }

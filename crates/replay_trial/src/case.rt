@@ -27,7 +27,7 @@ impl<'a> Case<'a> {
         })
     }
 
-    /// Whether the script does so.
+    /// Whether the script prints what it should, and ends with its status.
     pub fn holds(&self, alloc: Global) -> bool {
         plays(alloc, self.script.as_bytes(), self.printed, self.status)
     }

@@ -363,7 +363,7 @@ fn is_known_type(alloc: Global, kind: u8) -> bool {
     uses(&mut reader, &[kind], 1)
 }
 
-/// Whether it is judged so.
+/// Whether just the types that are known are read as known.
 fn is_judged_type(alloc: Global, kind: u8) -> bool {
     is_known_type(alloc, kind) == matches!(kind, 0 | 2..=6)
 }
@@ -399,7 +399,8 @@ fn changed(position: usize, value: u8) -> [u8; 16] {
     bytes
 }
 
-/// Whether the last byte of a format is read so: BadFormat, which stays, or a message.
+/// Whether the last byte of a format makes a whole message, where the format is accepted; and otherwise shows
+/// BadFormat, which stays.
 fn is_judged(reader: &mut ClientReader, last: &[u8], accepted: bool) -> bool {
     if accepted {
         uses(reader, last, 1) && reader.take().is_some()
@@ -408,7 +409,7 @@ fn is_judged(reader: &mut ClientReader, last: &[u8], accepted: bool) -> bool {
     }
 }
 
-/// Whether SetPixelFormat with these bytes is read so: no fault up to the last of them, and there it is judged.
+/// Whether a SetPixelFormat with these bytes shows no fault before the last of them, and is judged there.
 fn is_judged_at_its_end(alloc: Global, format: &[u8; 16], accepted: bool) -> bool {
     let mut reader = ClientReader::new(alloc);
     let (front, last) = format.split_at(15);

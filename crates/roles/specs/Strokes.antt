@@ -1,5 +1,5 @@
--- Which input of several places goes to the host, so that no place breaks into what another has begun with a key or a
--- button (RFC 6143, 7.5.4 and 7.5.5; the rule is this project's own).
+-- Which input of several places goes to the host: while a place has a key or a button down, no other place breaks in
+-- (RFC 6143, 7.5.4 and 7.5.5; the rule is this project's own).
 use Rattle.std.specs.Prelude.{◌≡◌, ◌≢◌, ◌⊎◌, ℕ, ◌+◌, ◌<◌, min, Bool, false, not, ◌&&◌, ◌||◌, ◌==◌, nat_lt, if◌then◌else◌, List, [], ◌∷◌, ◌++◌, length, slice_index, slice_set}
 use Rattle.std.specs.List.{list_any}
 use Rattle.fault.specs.declared.limits.TheConstants.{LIMIT}
@@ -11,7 +11,7 @@ pub record Taken : Type 0 where
   pub place : ℕ
   pub input : Input
 
--- This input, as taken of this place.
+-- This input, taken from this place.
 abbrev pub input_from : ℕ → Input → Taken
 input_from place input = record { place = place; input = input }
 
@@ -41,8 +41,8 @@ another_has_down place passed = list_any (λ t. not (t.place == place) && has_do
 abbrev pub passes_after : List Taken → Taken → Bool
 passes_after passed t = not (another_has_down t.place passed) && passes (keys_of t.place passed) t.input
 
--- Where the inputs of the first list have passed already: those, and then the inputs of the second list that pass, in
--- order.
+-- The inputs of the first list, which have passed already, followed by those of the second list that pass after them,
+-- in order.
 abbrev pub unbroken_after : List Taken → List Taken → List Taken
 unbroken_after passed [] = passed
 unbroken_after passed (t ∷ ts) = if passes_after passed t then unbroken_after (passed ++ t ∷ []) ts else unbroken_after passed ts
@@ -51,24 +51,25 @@ unbroken_after passed (t ∷ ts) = if passes_after passed t then unbroken_after 
 abbrev pub unbroken : List Taken → List Taken
 unbroken taken = unbroken_after [] taken
 
--- The inputs of the second list that don't pass where the first list has passed already, in order.
+-- Those inputs of the second list that are dropped, in order, where the inputs of the first list have passed already.
 abbrev pub left_out_after : List Taken → List Taken → List Taken
 left_out_after passed [] = []
 left_out_after passed (t ∷ ts) = if passes_after passed t then left_out_after (passed ++ t ∷ []) ts else t ∷ left_out_after passed ts
 
--- How many inputs of a place didn't pass. A count at LIMIT stays there.
+-- How many inputs of a place were dropped. A count at LIMIT stays there.
 abbrev pub dropped : ℕ → List Taken → ℕ
 dropped place taken = min LIMIT (length (sent_by place (left_out_after [] taken)))
 
--- The first list has some of the second, in its order, each at most once: the second list's first is left out, or both
--- begin with it.
+-- The first list has some elements of the second, in the same order, each at most once: either the second list's first
+-- element is left out, or both lists begin with it.
 abbrev pub IsPickedFrom : {A : Type 0} → List A → List A → Type 0
 IsPickedFrom picked [] = picked ≡ []
 IsPickedFrom {A} picked (x ∷ xs) = IsPickedFrom picked xs ⊎ ((rest : List A) × (picked ≡ x ∷ rest) × IsPickedFrom rest xs)
 
 -- ---- what is kept of it
 
--- The place of which an input passed last, what is kept of its input, and the count of each place from 0 on.
+-- What is kept: the place whose input passed last, what is kept of that place's input, and how many inputs were dropped
+-- of each place, from place 0 on.
 pub record StrokesKept : Type 0 where
   pub place : ℕ
   pub held : Kept

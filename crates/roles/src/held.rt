@@ -129,8 +129,9 @@ impl Held {
         }
     }
 
-    /// Whether an input passes, and what is held after it: the press of a key that is down already or while fewer than
-    /// 64 keys are down, the release of a key that is down, each pointer event and each text pass. It takes no memory.
+    /// Whether an input passes. It also notes what is held after that input. The press of a key passes where the key is
+    /// down already or fewer than 64 keys are down, the release of a key where the key is down, and each pointer event
+    /// and each text. It takes no memory.
     pub(crate) fn takes(&mut self, input: &Input) -> bool
         ensures value { result ≡ passes self.old.keys (input_in input.now) }
         ensures kept { self.new ≡ kept_after self.old (Some (input_in input.now)) }

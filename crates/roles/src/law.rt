@@ -8,7 +8,8 @@ ghost use Rattle.roles.specs.Allowed.{allowed};
 ghost use Rattle.roles.specs.Held.{Kept, HeldStands, left_in};
 ghost use Rattle.roles.specs.Strokes.{Taken, input_from, sent_by, has_down, unbroken, dropped, IsPickedFrom};
 
-/// Where a viewer leaves, what passed of its messages and then what `Held::release` gives is all that is allowed.
+/// All that is allowed of a viewer that leaves is what passed of its messages, followed by what `Held::release` gives
+/// then.
 pub fn releases_are_allowed()
     ensures { (role : Role) (held : Kept) (messages : List ClientMessage)
         → HeldStands role held messages
@@ -17,11 +18,10 @@ pub fn releases_are_allowed()
 
 /// What passes of the input of several places.
 ///
-/// What passes of a place's input is some of what that place sent, in its order, each input at most once. Where an
-/// input of a place passes, no other place has a key or a button down: between a place's first press and the last
-/// release of its keys and buttons nothing of another place passes. Where only one place sends, all that its viewer is
-/// allowed passes, with the releases once it has left. Each input that doesn't pass is counted for the place that sent
-/// it.
+/// Of what a place sent, some inputs pass, in the order in which it sent them, each at most once. Where an input of a
+/// place passes, no other place has a key or a button down: between a place's first press and the last release of its
+/// keys and buttons nothing of another place passes. Where only one place sends, all that its viewer is allowed passes,
+/// with the releases once it has left. Each input that doesn't pass is dropped, and counted for the place that sent it.
 pub fn strokes_are_whole()
     ensures picked { (place : ℕ) (taken : List Taken)
         → IsPickedFrom (sent_by place (unbroken taken)) (sent_by place taken) }

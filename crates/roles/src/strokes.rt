@@ -11,7 +11,7 @@ use fault::{Fault, LIMIT};
 use std::alloc::Global;
 use std::marker::Model;
 
-/// Whose key or button is down, and how many inputs of each place didn't pass.
+/// Whose key or button is down, and how many inputs of each place were dropped.
 #[derive(Drop)]
 pub struct Strokes {
     place: u64,
@@ -69,10 +69,11 @@ impl Strokes {
         passes
     }
 
-    /// Whether an input that was taken of this place passes to the host. It takes no memory.
+    /// Whether an input that was taken from this place passes to the host. It takes no memory.
     ///
-    /// It passes where no other place has a key or a button down, unless it releases a key that its own place doesn't
-    /// have down, or presses a further key while that place has 64 down. An input that doesn't pass is counted.
+    /// An input passes where no other place has a key or a button down. There are two exceptions: the release of a key
+    /// that its own place doesn't have down, and the press of a further key while its own place has 64 down. An input
+    /// that doesn't pass is dropped, and counted.
     pub fn passes(&mut self, place: u64, input: &Input) -> bool
         ensures value { (taken : List Taken) → StrokesStand self.old taken
             → result ≡ passes_after (unbroken taken) (input_from place (input_in input.now)) }
@@ -90,7 +91,7 @@ impl Strokes {
         passes
     }
 
-    /// How many inputs of this place didn't pass, at most `LIMIT`. It takes no memory.
+    /// How many inputs of this place were dropped, at most `LIMIT`. It takes no memory.
     pub fn dropped(&self, place: u64) -> u64
         requires { place < length self.now.counts }
         ensures { (taken : List Taken) → StrokesStand self.now taken

@@ -108,7 +108,7 @@ outcome_at (Some Free) = outcome.Nobody
 outcome_at (Some Taken) = outcome.Done
 outcome_at (Some Leaving) = outcome.Done
 
--- What is answered to a request that a run which ends doesn't do.
+-- The answer to a request that isn't done any more once the run ends.
 abbrev pub outcome_unless_closed : Entry → Outcome
 outcome_unless_closed Closed = outcome.Ending
 outcome_unless_closed Open = outcome.Done

@@ -1,4 +1,5 @@
--- The lines of requests: one word, or `state json`, or `end` and the number of a place, or `call`, a role and an address.
+-- The lines of requests: one word, or `state json`, or `end` and the number of a place, or `call`, a role and an
+-- address.
 use Rattle.std.specs.Prelude.{◌≡◌, ℕ, ◌<◌, ◌^◌, ◌++◌, List, codes}
 use Rattle.std.specs.Fmt.{decimal}
 use Rattle.std.specs.Net.Grammar.{IsSocketText}

@@ -167,7 +167,7 @@ impl Doors {
         }
     }
 
-    /// What is answered to a request that a run which ends doesn't do.
+    /// The answer to a request that isn't done any more once the run ends.
     fn outcome_unless_closed(&self) -> Outcome
         ensures { result ≡ outcome_unless_closed self.now.entry }
     {

@@ -11,7 +11,7 @@ abbrev pub is_taken : Counters → Role → Bool
 is_taken c of.Full = nat_le c.places.full c.viewers.full
 is_taken c of.View = nat_le c.places.view c.viewers.view
 
--- No place of this role is free, or, where none is named, no place of either.
+-- No place of this role is free; or, where no role is named, no place of either role.
 abbrev pub is_full : Counters → Option Role → Bool
 is_full c None = is_taken c of.Full && is_taken c of.View
 is_full c (Some role) = is_taken c role

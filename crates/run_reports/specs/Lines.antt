@@ -16,7 +16,7 @@ abbrev pub prefix_for : Gravity → Bool → List ℕ
 prefix_for gravity true = journal_prefix gravity
 prefix_for gravity false = []
 
--- A line and its end, before which stands how many lines were left out, if some were.
+-- A line, then how many lines were left out before it, if some were, and then its end.
 abbrev pub after_line : List ℕ → ℕ → List ℕ
 after_line line zero = line ++ codes "\n"
 after_line line (suc n) = line ++ codes " left-out=" ++ decimal (suc n) ++ codes "\n"

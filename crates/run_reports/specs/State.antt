@@ -1,5 +1,5 @@
--- How a run stands, in lines of names and values. Each definition of lines gives the text that there is once these
--- lines were put after a text.
+-- How a run stands, in lines of names and values. Each definition of lines puts its lines at the end of the text that
+-- it is given.
 use Rattle.std.specs.Prelude.{ℕ, Bool, true, false, List, [], ◌∷◌, ◌++◌, codes, Option, Some, None}
 use Rattle.std.specs.Fmt.{decimal}
 use Rattle.roles.specs.declared.role.Role.{Role}

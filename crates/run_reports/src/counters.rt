@@ -9,7 +9,8 @@ pub struct ByRole {
     pub view: u64,
 }
 
-/// By how many updates viewers are behind: numbers that half of them, nine in ten and all of them don't exceed.
+/// By how many updates viewers are behind: half of them by at most the first number, nine in ten by at most the second,
+/// and all of them by at most the third.
 #[derive(Clone, Copy, Debug)]
 pub struct Lag {
     pub half: u64,

@@ -29,7 +29,7 @@ fn is_taken(counters: &Counters, role: Role) -> bool
     }
 }
 
-/// Whether no place of this role is free, or, where none is named, no place of either.
+/// Whether no place of this role is free; or, where no role is named, no place of either role.
 fn is_full(counters: &Counters, role: Option<Role>) -> bool
     ensures { result ≡ is_full counters.now role }
 {

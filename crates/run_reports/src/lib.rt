@@ -1,5 +1,5 @@
-//! What those who watch over a run are told: an operator, Prometheus, systemd and its journal, a balancer, and readers of
-//! the log.
+//! What those who watch over a run are told: an operator, Prometheus, systemd and its journal, a balancer, and readers
+//! of the log.
 //!
 //! Everything here is a value; the caller sends the texts. Memory: for texts. Handles: none.
 #![tactic(auto)]

@@ -171,7 +171,8 @@ impl Peer {
         }
     }
 
-    /// Follows an answer: the area that was asked for is shown as after an update, which is none before the last one.
+    /// Follows an answer. After it the peer holds the area asked for as it is after some update, which isn't before the
+    /// one that it was shown last.
     fn follow(&mut self, sight: &Sight) {
         let view = self.board.view;
         if self.followed == 0 && view.greeting.len() <= self.heard.len() {

@@ -22,14 +22,14 @@ module _ {A B V W : Type 0} where
   is_for_either first second (First door) role = first door role
   is_for_either first second (Second door) role = second door role
 
-  -- The door that it holds may let a viewer in so, or none. It stays of its kind.
+  -- The door that it holds may let a viewer in as its own relation says, or let none in. A door stays of its kind.
   abbrev pub lets_in_either : (A → Bool → A → Type 0) → (B → Bool → B → Type 0) → EitherDoor A B V W → Bool → EitherDoor A B V W → Type 0
   lets_in_either first second (First old) came (First new) = first old came new
   lets_in_either first second (Second old) came (Second new) = second old came new
   lets_in_either first second old came new = ⊥
 
-  -- The door that it holds may see a viewer off so, whose link was left in this state. It isn't changed by a link of
-  -- the other kind, which it never handed out.
+  -- The door that it holds may see a viewer off whose link was left in this state and whose visit ended with this
+  -- answer. A link of the other kind, which it never handed out, changes nothing.
   abbrev pub sees_off_either : (A → LinkState → Result (Unit {0}) Fault → A → Type 0) → (B → LinkState → Result (Unit {0}) Fault → B → Type 0) → EitherDoor A B V W → LinkState → Result (Unit {0}) Fault → EitherDoor A B V W → Type 0
   sees_off_either first second (First old) state why (First new) = first old state why new ⊎ (new ≡ old)
   sees_off_either first second (Second old) state why (Second new) = second old state why new ⊎ (new ≡ old)

@@ -4,8 +4,8 @@ use Rattle.fault.specs.declared.kinds.Fault.{Fault}
 use Rattle.link.specs.Links.{LinkState}
 use Rattle.run_traits.specs.Unused.{unused}
 
--- A door with these relations keeps this trail: it notes each viewer's link as it comes, unused, and then as it was
--- left, and nothing else.
+-- A door with these relations keeps this trail: into it goes each viewer's link, first as it comes, unused, and later
+-- as it was left, and nothing else.
 pub record KeepsTrail {D : Type 0} (lets_in : D → Bool → D → Type 0) (sees_off : D → LinkState → Result (Unit {0}) Fault → D → Type 0) (trail : D → List LinkState) : Type 0 where
   pub came : (old new : D) → lets_in old true new → trail new ≡ trail old ++ unused ∷ []
   pub none : (old new : D) → lets_in old false new → trail new ≡ trail old

@@ -19,12 +19,12 @@ pub trait Door: Drop {
     /// The fact that its viewers may be served in this role. A door that doesn't say is for either role.
     ghost is_for: { Self → Role → Type 0 } = { λ _ _. ⊤ };
 
-    /// The second door is one that asking for the next viewer may make of the first, where a viewer came or where none
-    /// did. Each door says what this means.
+    /// The second door may come of the first when it is asked for the next viewer, where a viewer came (true) or where
+    /// none did. Each door says what this means.
     ghost lets_in: { Self → Bool → Self → Type 0 };
 
-    /// The second door is one that taking back a viewer may make of the first, where the viewer's link was left so and
-    /// its visit ended so. Each door says what this means.
+    /// The second door may come of the first when it takes back a viewer whose link was left in this state and whose
+    /// visit ended with this answer. Each door says what this means.
     ghost sees_off: { Self → LinkState → Result (Unit {0}) Fault → Self → Type 0 };
 
     /// The next viewer, or `None` where no more come. It may wait without an end.

@@ -70,8 +70,8 @@ fn tell_answer(
     seen.tell(&[len])
 }
 
-/// The same of an answer in exactly the room that a rectangle may need. Numbers say the encoding, whether CopyRect is
-/// taken and whether runs are joined, and the area.
+/// Tells the same of an answer, written with just the room that a rectangle may need. The numbers say the encoding,
+/// whether CopyRect is taken, whether runs are joined, and the area.
 fn answer(alloc: Global, cut: &Cut, given: &Values, seen: &mut Values) -> Option<()> {
     let ([kind, copy, joined], rest) = given.numbers.as_slice().split_first_chunk::<3>()?;
     let (area, _) = rect_of(rest)?;

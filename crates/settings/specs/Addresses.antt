@@ -18,8 +18,8 @@ IsBracketed text inner = text ≡ codes "[" ++ (inner ++ codes "]")
 abbrev pub IsBindText : List ℕ → IpAddr → Type 0
 IsBindText text ip = IsIpText text ip ⊎ ((inner : List ℕ) × IsBracketed text inner × IsIpText inner ip)
 
--- The address at which the viewers of a role come in: the IP address that the settings' text to bind writes for them,
--- at the port of the role, without a flow label or a scope.
+-- The address at which the viewers of a role come in: the IP address that the settings' text to bind says for them, and
+-- the port of the role, without a flow label or a scope.
 pub record IsAddressFor (role : Role) (settings : Settings) (address : SocketAddr) : Type 0 where
   pub ip : IsBindText (bind_for role settings) (socket_ip address)
   pub port : IsPlainSocket address (port_for role settings)

@@ -13,7 +13,8 @@ room_text width height = decimal width ++ (codes "x" ++ decimal height)
 abbrev pub FitsInto : Option Room → (host_width host_height : ℕ) → Type 0
 FitsInto room host_width host_height = IfSome room (λ r. (host_width ≤ r.width) × (host_height ≤ r.height))
 
--- The room by these settings has this size: that which they say, or else that of the first host's screen.
+-- The room by these settings has this size: the one that the settings say or, where they say none, that of the first
+-- host's screen.
 abbrev pub IsRoomFor : Settings → (host_width host_height : ℕ) → (width height : ℕ) → Type 0
 IsRoomFor settings host_width host_height width height =
     MatchOption settings.room ((width ≡ host_width) × (height ≡ host_height)) (λ room. (width ≡ room.width) × (height ≡ room.height))

@@ -3,10 +3,10 @@
 ghost use Rattle.std.specs.Prelude.{List, ℕ, IfNone, IfSome};
 ghost use Rattle.settings.specs.Recordings.{PlaysFrom};
 
-/// How the text of a host begins that is a recording.
+/// How the text of a host begins where the host is a recording.
 const FILE: &str = "file:";
 
-/// The path of the recording that the host of this text is, if it is one.
+/// The path of the recording, where this text of a host names one.
 pub fn recording_path(text: &str) -> Option<&str>
     ensures some { IfSome result (λ path. PlaysFrom text.now path.now) }
     ensures none { IfNone result ((path : List ℕ) → ¬ PlaysFrom text.now path) }

@@ -34,8 +34,8 @@ impl Room {
     }
 }
 
-/// Whether a text begins with the digit 0 or a byte below it, as no number does that isn't 0. `parse` takes a plus,
-/// too, and leading zeros.
+/// Whether a text begins with the digit 0 or a byte below it, as no number but 0 does. `parse` would take a plus, too,
+/// and leading zeros.
 fn begins_low(text: &[u8]) -> bool
     ensures { result ≡ nat_le (slice_index text.now 0) 48 }
 {

@@ -23,7 +23,7 @@ pub record IsFront (bytes now : List ℕ) (n : ℕ) : Type 0 where
   pub count : n ≡ length bytes
   pub front : take n now ≡ bytes
 
--- A rectangle in an encoding stands at the front, and the number is how many bytes it has; or there is no number, and
+-- At the front stands a rectangle in an encoding, and the number is how many bytes it has. Where there is no number,
 -- the encoding doesn't save bytes.
 abbrev pub IsSaved : Runs → Encoding → PixelFormat → Rect → List ℕ → List ℕ → Option ℕ → Type 0
 IsSaved runs kind format r values now (Some n) =
@@ -34,8 +34,8 @@ IsSaved runs kind format r values now None = saves_bytes_as runs kind format r.w
 abbrev pub is_due_of : SentTiles → List Update → ℕ → Bool
 is_due_of have us t = is_due_since (tile_rect have.width have.height t) (sent_at have t) us
 
--- An answer of what a cut shows in the tiles that it marks has the same bytes as an answer of the screen that was cut,
--- in the tiles that were due there.
+-- Of what a cut shows, the tiles that it marks are answered. That answer has the same bytes as one of the screen that
+-- was cut, in the tiles that were due there.
 abbrev pub CutIsAnswered : Type 0
 CutIsAnswered =
     (us : List Update) (n : ℕ) (area : Rect) (have : SentTiles) (cut : Cut) (style : Style) (sent : Bool)

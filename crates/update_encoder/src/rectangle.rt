@@ -153,8 +153,9 @@ fn copy_encoded(style: &Style, cut: &Cut, area: &Rect, out: &mut [u8]) -> Option
 }
 
 /// Writes the data of a rectangle in Hextile in the form of a style, where that has fewer bytes than Raw (RFC 6143,
-/// 7.7.4): as it is encoded for all viewers; or else from its colours, where the format is the host's or each tile has a
-/// kept form; or from its pixel values, for which `values` is room.
+/// 7.7.4). It copies the data where they are encoded for all viewers. Otherwise it writes them from the area's colours,
+/// where the format is the host's or each tile has a kept form, and else from the pixel values, for which `values` is
+/// room.
 fn encode_hextile(
     style: &Style,
     cut: &Cut,

@@ -16,11 +16,11 @@ use Rattle.viewer_server.specs.Steps.{Unpassed, WaitsIfLeft}
 
 -- ---- what is promised
 
--- A viewer is served, or was. Each act that was done for it may be done. All bytes that were taken are read, but for
--- those after a message whose input waits. It was given as many bytes of its hello and answers, from the first on, as
--- count as written. A follower of its answers holds what was asked for. The source was only looked at and cut, by the
--- turns, but for one more look where it has ended. What the sink took is a beginning of all that is allowed of a viewer
--- that leaves now.
+-- A viewer is served, or was. Each act that was done for it may be done. All bytes that were taken are read, except
+-- those after a message whose input waits. Of its hello and answers it was given the first bytes, as many as count as
+-- written. A follower of its answers holds what was asked for. To the source nothing was done but the looks and cuts of
+-- the turns, and perhaps one more look, where the source has ended. What the sink took is a beginning of all that is
+-- allowed of a viewer that leaves now.
 pub record ServesSoFar {S : Type 0} (looks cuts : S → ℕ → S → Type 0) (source_old source_new : S) (us : List Update) (s : Setup) (p : Viewer) (sent_old sent_new : List Input) (old new : LinkState) : Type 0 where
   pub acts : List Act
   pub behind : S
@@ -38,7 +38,8 @@ pub record ServesSoFar {S : Type 0} (looks cuts : S → ℕ → S → Type 0) (s
 
 -- ---- what a visit keeps
 
--- Where a turn was offered with nothing unsent, one was had if the viewer is between two messages.
+-- Where a turn was offered while nothing was unsent, and the viewer is between two messages, the viewer has had a turn
+-- since its last message.
 abbrev pub IsTurned : Bool → Setup → Viewer → Type 0
 IsTurned true s p = IsBetween p → has_turned p.entries ≡ true
 IsTurned false s p = Unit {0}
@@ -60,8 +61,8 @@ pub record IsServing {S : Type 0} (looks cuts : S → ℕ → S → Type 0) (sou
   pub counted : HasCounted st us
   pub turned : IsTurned is_offered s (viewer_after s us p acts)
 
--- A viewer was served, and is served no longer. What the sink took, what waits and the releases are all that is allowed
--- of it.
+-- A viewer was served, and is served no longer. All that is allowed of it is what the sink took, then the input that
+-- waits, then the releases.
 pub record IsLeft {S : Type 0} (looks cuts : S → ℕ → S → Type 0) (source_old source_new : S) (us : List Update) (s : Setup) (p : Viewer) (st : State) (box : Unpassed) (sent_old sent_new : List Input) (old new : LinkState) : Type 0 where
   pub acts : List Act
   pub behind : S

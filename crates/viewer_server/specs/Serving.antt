@@ -19,8 +19,8 @@ use Rattle.viewer_session.specs.Session.{HasOnlyLooked, IsBetween}
 
 -- A list of acts has the latest first.
 
--- A turn cuts where there is reason, at a number of updates that is at least each number that was seen or cut at. What
--- its session chose of the answer, it may choose.
+-- A turn cuts exactly where there is reason to. The number of the cut is at least each number that was seen or cut at
+-- before. What the session chose of the answer, it may choose.
 abbrev pub CutsWell : Setup → List Update → Viewer → (looked : ℕ) → Option Cutting → Type 0
 CutsWell s us p looked None = has_reason s.w s.h p.entries looked ≡ false
 CutsWell s us p looked (Some cut) =
@@ -45,8 +45,8 @@ abbrev pub HasCut : {S : Type 0} → (cuts : S → ℕ → S → Type 0) → Opt
 HasCut {S} cuts None before after = after ≡ before
 HasCut {S} cuts (Some cut) before after = cuts before cut.number after
 
--- The looks and cuts of the turns are all that was done to the source: one look a turn, with the source's own reply,
--- and then one cut, with its own number, where the turn has one.
+-- To the source nothing was done but the looks and cuts of the turns. Each turn looks once, with the source's own
+-- reply, and where it has a cut, cuts once then, with the cut's own number.
 abbrev pub IsShown : {S : Type 0} → (looks cuts : S → ℕ → S → Type 0) → S → List Act → S → Type 0
 IsShown {S} looks cuts old [] new = new ≡ old
 IsShown {S} looks cuts old (Bytes marks bytes ∷ acts) new = IsShown looks cuts old acts new
@@ -79,7 +79,8 @@ pub record IsDone (s : Setup) (p : Viewer) : Type 0 where
   pub turned : has_turned p.entries ≡ true
   pub written : p.written ≡ length (out_bytes s p)
 
--- The link ended while bytes were unsent, or it ended anywhere but between two messages after the hello; or it failed.
+-- The link ended while bytes were unsent; it ended while the viewer wasn't between two messages after its hello; or it
+-- failed.
 abbrev pub HaltsBy : Fault → Setup → Viewer → (failed_old failed_new : ℕ) → (ended_old ended_new : ℕ) → Type 0
 HaltsBy LinkEnded s p failed_old failed_new ended_old ended_new = HasRisen ended_old ended_new × ((p.written < length (out_bytes s p)) ⊎ (IsBetween p → ⊥))
 HaltsBy LinkFailed s p failed_old failed_new ended_old ended_new = HasRisen failed_old failed_new
@@ -112,8 +113,8 @@ EndsServing {S} looks may_end was_set is_given_up behind source s p (Err fault) 
 abbrev pub all_allowed : Viewer → List Input
 all_allowed p = allowed p.role (messages_in p.entries) true
 
--- Why the sink didn't take all that is allowed: the flag was set, or, which is never Ok, the sink refused an input for
--- good.
+-- Why the sink took only a part of all that is allowed: the flag was set; or, where the answer isn't Ok, the sink
+-- refused an input for good.
 abbrev pub IsHeldBack : (was_set : Type 0) → (may_refuse : Fault → Type 0) → Result (Unit {0}) Fault → (sent all : List Input) → Type 0
 IsHeldBack was_set may_refuse (Ok done) sent all = was_set
 IsHeldBack was_set may_refuse (Err fault) sent all = was_set ⊎ ((refused : Fault) × GivesUp may_refuse refused sent all)
@@ -127,8 +128,9 @@ pub record Relays (was_set : Type 0) (may_refuse : Fault → Type 0) (p : Viewer
   pub all_but_last : Begins (allowed p.role (messages_in (before_last p.entries)) false) sent
   pub whole : (sent ≡ all_allowed p) ⊎ IsHeldBack was_set may_refuse answer sent (all_allowed p)
 
--- After an answer a follower of all answers holds the area asked for, of the screen after the first n of these updates,
--- in the format last taken before the cut. Where no viewer is answered in ZRLE, so does a follower that doesn't take it.
+-- After an answer a follower of all answers holds the area asked for. It holds it as the screen is after the first n of
+-- these updates, in the format that was taken last before the cut. Where no viewer is answered in ZRLE, a follower that
+-- doesn't take ZRLE holds the same.
 abbrev pub HoldsEither : Setup → List Update → Rect → ℕ → List ℕ → List Entry → Type 0
 HoldsEither s us area n bytes earlier =
     HoldsAnswer s.w s.h us area n bytes earlier × (s.zrle ≡ false → HoldsArea (follower s.w s.h (received (Began area n bytes ∷ earlier))) area (take n us))
@@ -140,10 +142,10 @@ EachAnswerHolds s us p =
     (later earlier : List Entry) (area : Rect) (n : ℕ) (bytes : List ℕ) → p.entries ≡ later ++ Began area n bytes ∷ earlier
     → (n ≤ length us) × NumbersUpTo n earlier × HoldsEither s us area n bytes earlier × KnowsSize s.w s.h s.host (take n us) earlier
 
--- A viewer was served. Each act that was done for it may be done. All bytes that were taken are read, but for those
--- after a message whose input waits. It was given as many bytes of its hello and answers, from the first on, as count
--- as written. A follower of its answers holds what was asked for. The sink took the viewer's input, up to the first
--- that it refused for good, if there is one.
+-- A viewer was served. Each act that was done for it may be done. All bytes that were taken are read, except those
+-- after a message whose input waits. Of its hello and answers it was given the first bytes, as many as count as
+-- written. A follower of its answers holds what was asked for. The sink took the viewer's input, up to the first that
+-- it refused for good, if there is one.
 pub record Serves {S : Type 0} (looks cuts : S → ℕ → S → Type 0) (may_end was_set : Type 0) (may_refuse : Fault → Type 0) (source_old source_new : S) (us : List Update) (s : Setup) (p : Viewer)
     (sent_old sent_new : List Input) (answer : Result (Unit {0}) Fault) (old new : LinkState) : Type 0 where
   pub acts : List Act

@@ -34,7 +34,7 @@ Passes may_refuse (Ok true) before after sent_old sent_new = (is_some before.wai
 Passes may_refuse (Ok false) before after sent_old sent_new = (after ≡ record before { waiting = None }) × (sent_new ≡ sent_old ++ waiting_list before.waiting)
 Passes may_refuse (Err fault) before after sent_old sent_new = (is_some before.waiting ≡ true) × (after ≡ before) × (sent_new ≡ sent_old) × IsRefused may_refuse fault
 
--- The session stands for the viewer after these bytes, without the input that then waits, which is next.
+-- The session stands for the viewer after these bytes, except for the input that waits then, which is `next`.
 pub record ReadsTo (s : Setup) (p : Viewer) (st : State) (marks : List Bool) (bytes : List ℕ) (next : Option Input) : Type 0 where
   pub stands : Stands s st (without_input (after_bytes (with_marks marks p) bytes))
   pub waiting : (after_bytes (with_marks marks p) bytes).waiting ≡ next

@@ -18,8 +18,8 @@ use roles::InputSink;
 use std::sync::Wait;
 use viewer_session::Session;
 
-/// Unless bytes are unsent, the session has a turn. Then `progress` is told how far the viewer is, and the source
-/// whether to lend forms for it. It answers whether no bytes were unsent.
+/// Has the session take a turn, unless bytes are unsent. Then it tells `progress` how far the viewer is, and the source
+/// whether to lend forms for the viewer. It answers whether no bytes were unsent.
 pub(crate) fn offer<S: ScreenSource, P: Progress>(
     source: &mut S,
     session: &mut Session,

@@ -1,4 +1,4 @@
-//! One viewer's visit: all that could be done to a viewer, a source and a sink, in the hands of a few steps.
+//! One viewer's visit: whatever is done to a viewer, a source and a sink is done by one of its few steps.
 
 ghost use Rattle.std.specs.Prelude.{◌≡◌, ◌++◌, ◌<◌, ◌↔◌, Bool, None, true, false, [], List, IfOk, IsTrue, length, is_some};
 ghost use Rattle.reflect_core.specs.Sequential.{Begins};
@@ -44,7 +44,7 @@ impl<L, S, K> Drop for Beginning<L, S, K> {
 }
 
 impl<L, S, K> Beginning<L, S, K> {
-    /// The beginning of a visit of these.
+    /// The beginning of a visit with this link, this source, this sink and this session.
     pub fn of(link: &L, source: &S, sink: &K, session: &Session) -> Self
         ensures link { result.link.value ≡ link.now }
         ensures source { result.source.value ≡ source.now }
@@ -62,10 +62,10 @@ impl<L, S, K> Beginning<L, S, K> {
 
 /// A viewer's link, the source of what it is shown, the sink of its input, and its session.
 ///
-/// While a visit has them nobody else does, and a visit does with them only what its steps do. No step takes a handle,
-/// so each is proved to come to its end, as far as its link, source and sink do, and there `lawful` holds again. So
-/// whatever calls the steps, in whatever order and for however long, all that was done to the viewer, the source and
-/// the sink is as `so_far` says. A `T` is the key that takes a visit apart: who is lent a visit can't make one.
+/// Only a visit's own steps use these while the visit has them. No step takes a handle, so each is proved to end where
+/// the calls of the link, the source and the sink end, and `lawful` holds at its end. So `so_far` is true whenever
+/// steps were called, in whatever order and for however long. A `T` is the key that takes a visit apart: whoever is
+/// lent a visit can't make one.
 pub struct Visit<'a, L: Link, S: ScreenSource, K: InputSink, T: Drop> {
     link: L,
     source: S,

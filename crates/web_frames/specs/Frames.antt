@@ -65,7 +65,7 @@ abbrev pub key_of : Option (List ℕ) → List ℕ
 key_of None = 0 ∷ 0 ∷ 0 ∷ 0 ∷ []
 key_of (Some key) = key
 
--- A payload of this kind and size follows, after which a message is begun or not.
+-- A payload of this kind and size follows the header. `begun` says whether a message is begun after it.
 abbrev pub before_payload : Standing → Kind → Bool → FrameHeader → ℕ → Standing
 before_payload s kind begun h size =
     at_end (record s { position = Payload kind; head = []; begun = begun; key = key_of h.mask; turn = 0; left = size; control = [] })

@@ -9,8 +9,8 @@ pub fn all_frames_are_read()
     ensures { AllFramesAreRead }
 {}
 
-/// Nothing is read of a frame that a client may not send, such as one without a mask, one of a text or a part of no
-/// message, nor of what follows it. Reading then stands `Broken`.
+/// Nothing is read of a frame that a client may not send, nor of what follows such a frame: one without a mask, one of
+/// a text, or a part that belongs to no message. Reading then stands `Broken`.
 pub fn nothing_is_read_after_a_breach()
     ensures { NothingIsReadAfterABreach }
 {}

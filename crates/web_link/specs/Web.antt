@@ -34,7 +34,7 @@ StandsAt (Inside left) s =
     (s.masked ≡ false) × (s.position ≡ Payload Data) × (s.head ≡ []) × (s.begun ≡ false) × (s.key ≡ 0 ∷ 0 ∷ 0 ∷ 0 ∷ []) × (s.left ≡ left) × (1 ≤ left)
 StandsAt Closed s = s.position ≡ Ended
 
--- A client reads exactly these data of these bytes, and stands so after them.
+-- From these bytes a client reads exactly these data, and is then at this point of the frames.
 pub record Says (bytes given : List ℕ) (saying : Saying) : Type 0 where
   pub said : data_in (fresh false) bytes ≡ given
   pub stands : StandsAt saying (after_bytes (fresh false) bytes)

@@ -104,8 +104,8 @@ impl<L: Link> WebLink<L> {
         &self.link
     }
 
-    /// The link below, where this one is at rest: both ends stand between two messages, and nothing is unsent. So
-    /// another link of messages may begin over it as if nothing had been said. Otherwise it is `None`.
+    /// The link below, if both ends stand between two messages and nothing is unsent; otherwise `None`. Another link of
+    /// messages may then begin over it as if nothing had been said.
     #[tactic(auto, using(crate::proofs::Carrying::all_sent))]
     pub fn into_below(self) -> Option<L>
         ensures below { IfSome result (λ link. L.state link ≡ self.wire) }

@@ -112,7 +112,7 @@ fn refresh(cut: &mut Cut, source: &Source, all: bool)
     mark(cut.due.as_mut_slice(), all);
 }
 
-/// The same, where the colours are copied anew.
+/// Does what `refresh` does, where the colours are to be copied anew.
 fn refresh_if(copies: bool, cut: &mut Cut, source: &Source, all: bool)
     requires { (source.now.board.width ≡ cut.old.width)
         × (source.now.board.height ≡ cut.old.height) }

@@ -174,8 +174,8 @@ pub fn relay<R: Wait + Drop + Clone>(
     Ok((senders, Taker { line, pass, rt }))
 }
 
-/// Ends a relay: the senders and the taker come back. The inputs that were taken of a place are the first ones that it
-/// sent, and those that are left are the rest. The senders have to be those of this taker's relay.
+/// Ends a relay: the senders and the taker come back. Of what a place sent, the first inputs are those that were taken,
+/// and the rest are those that are left. The senders have to be those of this taker's relay.
 pub fn settle<R: Wait + Drop>(senders: Vec<Sender<R>>, taker: Taker<R>) -> Settled<R>
     requires { All (λ s. relay_of s ≡ host_of taker) senders.items }
     ensures taken { taken_at_end result ≡ taken_of taker }
