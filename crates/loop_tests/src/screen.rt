@@ -4,6 +4,7 @@ ghost use Rattle.std.specs.Prelude.{◌≡◌, ◌≤◌};
 
 use crate::puts::{ALL, MANY, Reads, Room, beside, puts_many, puts_one};
 use fault::Fault;
+use painter::Wanted;
 use pixel_format::Format;
 use reflect_core::{Cut, ScreenSource};
 use shared_screen::{Naming, Opened, Publisher, Publishes, Watcher, shared};
@@ -325,7 +326,10 @@ fn comes_right<J: Naming + Publishes, R: Wait + Drop>(
             true
         }
         Act::Wants(wants) => {
-            watcher.want_forms(wants.and_then(format_of));
+            watcher.want(Wanted {
+                forms: wants.and_then(format_of),
+                parts: false,
+            });
             true
         }
         Act::Looks(n) => watcher.look() == *n,

@@ -5,7 +5,7 @@ ghost use Rattle.shared_screen.specs.History.{Put};
 
 use crate::puts::painted;
 use fault::Fault;
-use painter::Patch;
+use painter::{Patch, Wanted};
 use shared_screen::{
     BESIDE_PLACES, HistoryFront, Naming, Opened, Published, Spares, Stamped, opened, tally,
 };
@@ -32,7 +32,7 @@ fn made<J: Naming>(
     requires size { (patch.now.width ≡ J.width) × (patch.now.height ≡ J.height) }
     requires first { (newest.now ≡ []) × (front.now ≡ Put patch.now.update ∷ []) }
 {
-    let board = spares.next(newest, patch, None)?;
+    let board = spares.next(newest, patch, Wanted::NOTHING)?;
     let board = Stamped::new(board, 1, front.again());
     spares.keep(&board);
     Ok(board)

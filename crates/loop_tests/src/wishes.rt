@@ -7,6 +7,7 @@ use fault::Fault;
 use input_relay::relay;
 use joined_runs::Runs;
 use link::{Gave, Took};
+use painter::Wanted;
 use pixel_format::Format;
 use raster::Rect;
 use reflect_core::{Cut, PlainScreen, ScreenSource};
@@ -75,9 +76,10 @@ impl ScreenSource for Told {
         self.screen.cut(area, have, into)
     }
 
-    fn want_forms(&self, format: Option<Format>) {
+    fn want(&self, wanted: Wanted) {
         let before = self.wish.load(Ordering::SeqCst);
-        self.wish.store(after(before, format), Ordering::SeqCst);
+        self.wish
+            .store(after(before, wanted.forms), Ordering::SeqCst);
     }
 }
 

@@ -9,6 +9,7 @@ ghost use Rattle.fault.specs.declared.kinds.Fault.TheVariants.{Memory};
 ghost use Rattle.raster.specs.Screen.{value_at};
 ghost use Rattle.raster.specs.Size.{IsScreenSize};
 ghost use Rattle.raster.specs.Update.{Update};
+ghost use Rattle.shared_parts.specs.Parts.{ArePartsOf};
 ghost use Rattle.std.specs.Int.{from_bool};
 
 use crate::area_source::AreaSource;
@@ -17,17 +18,19 @@ use crate::encoded::EncodedAreas;
 use crate::forms::Forms;
 use crate::patch::Patch;
 use crate::text::LastText;
+use crate::wanted::Wanted;
 use fault::Fault;
 use hextile_codec::TileForm;
 use pixel_format::Format;
 use raster::{Rect, Size};
+use shared_parts::SharedParts;
 use std::alloc::Global;
 use std::marker::Model;
 use tiles::{Grid, LackedSince};
 
 /// What a list of updates shows: the number of the last update, the screen, the number of the last update that touched
 /// each tile, how many Bells there were, and the last text of the host's cut buffer. It may keep the form of each
-/// tile's colours, too. All its memory is taken when it is made.
+/// tile's colours, and parts of ZRLE that viewers share, too. All its memory is taken when it is made, but that of parts.
 #[derive(Drop)]
 pub struct Board {
     width: u64,
@@ -40,6 +43,7 @@ pub struct Board {
     text: LastText,
     forms: Forms,
     encoded: EncodedAreas,
+    parts: SharedParts,
 }
 
 impl Model for Board {
@@ -48,6 +52,7 @@ impl Model for Board {
     ghost use Rattle.painter.specs.Board.{IsBoard, Posted};
     ghost use Rattle.painter.specs.Encoded.{AreEncoded};
     ghost use Rattle.raster.specs.Screen.{value_at};
+    ghost use Rattle.shared_parts.specs.Parts.{ArePartsOf};
 
     ghost Value = { Posted };
 
@@ -73,7 +78,8 @@ impl Model for Board {
       text = b.text;
     }) × AreFormsOf b.width b.height (value_at b.width b.colours.items) b.forms.list.items
         × AreEncoded b.encoded.format (value_at b.width b.colours.items)
-        (length b.encoded.bytes.items) b.encoded.bytes.items b.encoded.list.items };
+        (length b.encoded.bytes.items) b.encoded.bytes.items b.encoded.list.items
+        × ArePartsOf b.width b.colours.items b.parts };
 }
 
 /// How many updates and how many Bells there are after a patch, given how many there were before it.
@@ -101,6 +107,7 @@ impl Board {
         let grid = Grid::new(alloc, width, height)?;
         let forms = Forms::new(alloc, width, height)?;
         let encoded = EncodedAreas::new(alloc, width, height)?;
+        let parts = SharedParts::new(alloc)?;
         Ok(Board {
             width,
             height,
@@ -112,6 +119,7 @@ impl Board {
             text,
             forms,
             encoded,
+            parts,
         })
     }
 
@@ -182,9 +190,16 @@ impl Board {
         self.encoded.find(area, format)
     }
 
+    /// The parts of ZRLE that viewers of it share, where parts were wanted of its last update.
+    pub fn parts(&self) -> &SharedParts
+        ensures { ArePartsOf self.now.width self.now.colours result.now }
+    {
+        &self.parts
+    }
+
     /// Applies the next update. It always succeeds, and takes no memory. If a format is `wanted`, the forms of the
     /// tiles that change are made of their new colours, and the areas that change are encoded in that format; otherwise
-    /// forms and encoded areas are forgotten.
+    /// forms and encoded areas are forgotten. Its viewers share no parts.
     pub fn apply(&mut self, patch: &Patch, wanted: Option<Format>)
         requires size { (patch.now.width ≡ self.old.width) × (patch.now.height ≡ self.old.height) }
         requires number { self.old.number < 2 ^ 62 }
@@ -205,6 +220,7 @@ impl Board {
             forms: self.forms.list.as_slice(),
         };
         self.encoded.renew(&source, &self.grid, self.number, wanted);
+        self.parts.clear();
         self.text.follow(patch.text_bytes(), number);
         self.number = number;
         self.size = patch.size_after(self.size);
@@ -214,8 +230,8 @@ impl Board {
     /// Takes over what a newer board of its screen shows, and then applies one update more. This board has to be the
     /// view of the newer one's first updates. The tiles that were touched since are copied with their forms, except
     /// those that the patch brings. It always succeeds, and takes no memory. Forms are kept, and areas encoded, as in
-    /// `apply`.
-    pub fn catch_up(&mut self, newer: &Board, patch: &Patch, wanted: Option<Format>)
+    /// `apply`. Where parts are wanted, its viewers share those of ZRLE.
+    pub fn catch_up(&mut self, newer: &Board, patch: &Patch, wanted: Wanted)
         requires same { IsSameScreen self.old newer.now }
         requires size { (patch.now.width ≡ self.old.width) × (patch.now.height ≡ self.old.height) }
         requires number { newer.now.number < 2 ^ 62 }
@@ -237,7 +253,7 @@ impl Board {
             self.number,
         );
         let lacked = LackedSince::new(&self.grid, &newer.grid, self.number);
-        let keeps = wanted.is_some();
+        let keeps = wanted.forms.is_some();
         self.forms
             .take_lacked(&newer.forms, &lacked, self.width, self.height, keeps);
         patch.paint(self.colours.as_mut_slice());
@@ -250,7 +266,8 @@ impl Board {
             forms: self.forms.list.as_slice(),
         };
         self.encoded
-            .renew(&source, &self.grid, newer.number, wanted);
+            .renew(&source, &self.grid, newer.number, wanted.forms);
+        self.parts.renew(self.width, &self.colours, wanted.parts);
         self.text.catch_up(&newer.text, self.number);
         self.text.follow(patch.text_bytes(), number);
         self.number = number;
@@ -258,8 +275,8 @@ impl Board {
         self.bells = bells;
     }
 
-    /// Becomes equal to another board of its screen, and forgets its forms and encoded areas. It always succeeds, and
-    /// takes no memory.
+    /// Becomes equal to another board of its screen, and forgets its forms, encoded areas and parts. It always succeeds,
+    /// and takes no memory.
     pub fn copy_from(&mut self, other: &Board)
         requires { IsSameScreen self.old other.now }
         ensures { self.new ≡ other.now }
@@ -269,6 +286,7 @@ impl Board {
             .copy_from_slice(other.colours.as_slice());
         self.forms.clear();
         self.encoded.clear();
+        self.parts.clear();
         self.grid.copy_from(&other.grid);
         self.text.copy_from(&other.text);
         self.number = other.number;
@@ -276,8 +294,8 @@ impl Board {
         self.bells = other.bells;
     }
 
-    /// An equal board, made in the room that it is given, which never keeps forms. It always succeeds, and takes no
-    /// memory.
+    /// An equal board, made in the room that it is given, which never keeps forms or parts. It always succeeds, and takes
+    /// no memory.
     pub(crate) fn copy_to(
         &self,
         alloc: Global,
@@ -308,6 +326,7 @@ impl Board {
             text,
             forms: Forms::none(alloc),
             encoded: EncodedAreas::none(alloc),
+            parts: SharedParts::none(alloc),
         }
     }
 }

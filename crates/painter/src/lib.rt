@@ -18,6 +18,7 @@ mod patch;
 mod room;
 mod shown;
 mod text;
+mod wanted;
 
 pub use area_source::AreaSource;
 pub use board::Board;
@@ -27,3 +28,4 @@ pub use painter::Painter;
 pub use patch::Patch;
 pub use shown::Shown;
 pub use text::LastText;
+pub use wanted::Wanted;

@@ -6,12 +6,14 @@ ghost use Rattle.hextile_codec.specs.Kept.{AreFormsOf};
 ghost use Rattle.painter.specs.Encoded.{IsHextileOf};
 ghost use Rattle.raster.specs.Screen.{IsWithin, LooksLike, lay, part_of, value_at};
 ghost use Rattle.raster.specs.Size.{IsScreenSize};
+ghost use Rattle.shared_parts.specs.Parts.{ArePartsOf};
 
 use fault::Fault;
 use hextile_codec::TileForm;
 use painter::{Board, Shown, copy_area};
 use pixel_format::Format;
 use raster::Rect;
+use shared_parts::SharedParts;
 use std::alloc::Global;
 use std::marker::Model;
 use std::sync::Arc;
@@ -171,6 +173,16 @@ impl Picture {
     {
         match &self.shared {
             Some(board) if board.size() == (width, height) => board.encoded(area, format),
+            _ => None,
+        }
+    }
+
+    /// The parts of ZRLE that viewers of the board share which it shares, on a screen of this size.
+    pub fn parts(&self, width: u64, height: u64) -> Option<&SharedParts>
+        ensures { IfSome result (λ parts. ArePartsOf width self.now.items parts.now) }
+    {
+        match &self.shared {
+            Some(board) if board.size() == (width, height) => Some(board.parts()),
             _ => None,
         }
     }

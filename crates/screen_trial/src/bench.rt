@@ -11,7 +11,7 @@ use crate::rects::rect_of;
 use crate::values::Values;
 use crate::viewers::text_of;
 use fault::Fault;
-use painter::{Board, Painter, Patch, Shown};
+use painter::{Board, Painter, Patch, Shown, Wanted};
 use pixel_format::Format;
 use raster::tile_count;
 use reflect_core::{Cut, PlainScreen, Puts, ScreenSource};
@@ -168,10 +168,14 @@ impl Bench {
             "want" if given.bytes.is_empty() => self.wanted = None,
             "want" => self.wanted = Some(format_of(given.bytes.as_slice())?),
             "apply" => self.boards.board.apply(&self.patch, self.wanted),
-            "go_on" => self
-                .boards
-                .behind
-                .catch_up(&self.boards.board, &self.patch, self.wanted),
+            "go_on" => self.boards.behind.catch_up(
+                &self.boards.board,
+                &self.patch,
+                Wanted {
+                    forms: self.wanted,
+                    parts: false,
+                },
+            ),
             "swap" => mem::swap(&mut self.boards.board, &mut self.boards.behind),
             "share" => {
                 let (w, h) = self.viewed.have.size();

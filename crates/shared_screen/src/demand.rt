@@ -1,5 +1,7 @@
-//! Whether it is worth making forms of tiles and encoding areas, and in which format. No clause rests on it.
+//! Whether it is worth making forms of tiles and encoding areas, in which format, and whether viewers share parts of
+//! ZRLE. No clause rests on it.
 
+use painter::Wanted;
 use pixel_format::Format;
 use std::alloc::Global;
 use std::sync::Arc;
@@ -14,28 +16,30 @@ fn is_browsers(format: Format) -> bool {
     Format::read(&BROWSERS).is_ok_and(|browsers| browsers == format)
 }
 
-/// Counts the watchers for which forms of tiles are wanted: all of them, and those of the two formats in which most
-/// viewers draw.
+/// Counts the watchers for which forms of tiles are wanted, all of them and those of the two formats in which most
+/// viewers draw; and those for which parts are wanted.
 #[derive(Drop)]
-pub(crate) struct FormDemand {
+pub(crate) struct Demand {
     watchers: AtomicUsize,
     in_hosts: AtomicUsize,
     in_browsers: AtomicUsize,
+    in_parts: AtomicUsize,
 }
 
-impl FormDemand {
+impl Demand {
     /// A demand of no watcher.
-    pub(crate) fn new() -> FormDemand {
-        FormDemand {
+    pub(crate) fn new() -> Demand {
+        Demand {
             watchers: AtomicUsize::new(0),
             in_hosts: AtomicUsize::new(0),
             in_browsers: AtomicUsize::new(0),
+            in_parts: AtomicUsize::new(0),
         }
     }
 
     /// The format in which areas are to be encoded, where two watchers or more would share forms: the one of the two
     /// that more of them want. A single watcher makes a form as quickly itself, as it writes.
-    pub(crate) fn format(&self) -> Option<Format> {
+    fn format(&self) -> Option<Format> {
         if self.watchers.load(Ordering::SeqCst) < 2 {
             return None;
         }
@@ -45,15 +49,24 @@ impl FormDemand {
         }
         Some(Format::HOST)
     }
+
+    /// What is worth keeping of an update. Parts are shared where two watchers or more want them.
+    pub(crate) fn wanted(&self) -> Wanted {
+        Wanted {
+            forms: self.format(),
+            parts: 2 <= self.in_parts.load(Ordering::SeqCst),
+        }
+    }
 }
 
 /// What one watcher adds to the demand.
 #[derive(Drop)]
-pub(crate) struct FormClaim {
-    demand: Arc<FormDemand, Global>,
+pub(crate) struct Claim {
+    demand: Arc<Demand, Global>,
     is_made: AtomicBool,
     is_in_hosts: AtomicBool,
     is_in_browsers: AtomicBool,
+    is_in_parts: AtomicBool,
 }
 
 /// Notes whether a watcher adds one to a count from now on.
@@ -69,24 +82,26 @@ fn count(is_added: &AtomicBool, count: &AtomicUsize, adds: bool) {
     }
 }
 
-impl FormClaim {
+impl Claim {
     /// A claim that adds nothing yet.
-    pub(crate) fn new(demand: Arc<FormDemand, Global>) -> FormClaim {
-        FormClaim {
+    pub(crate) fn new(demand: Arc<Demand, Global>) -> Claim {
+        Claim {
             demand,
             is_made: AtomicBool::new(false),
             is_in_hosts: AtomicBool::new(false),
             is_in_browsers: AtomicBool::new(false),
+            is_in_parts: AtomicBool::new(false),
         }
     }
 
-    /// Notes in which format forms are wanted for its watcher from now on, or that none are.
-    pub(crate) fn set(&self, format: Option<Format>) {
-        let demand: &FormDemand = &self.demand;
-        let in_hosts = format == Some(Format::HOST);
-        let in_browsers = format.is_some_and(is_browsers);
-        count(&self.is_made, &demand.watchers, format.is_some());
+    /// Notes what is wanted for its watcher from now on.
+    pub(crate) fn set(&self, wanted: Wanted) {
+        let demand: &Demand = &self.demand;
+        let in_hosts = wanted.forms == Some(Format::HOST);
+        let in_browsers = wanted.forms.is_some_and(is_browsers);
+        count(&self.is_made, &demand.watchers, wanted.forms.is_some());
         count(&self.is_in_hosts, &demand.in_hosts, in_hosts);
         count(&self.is_in_browsers, &demand.in_browsers, in_browsers);
+        count(&self.is_in_parts, &demand.in_parts, wanted.parts);
     }
 }

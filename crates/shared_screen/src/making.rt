@@ -5,7 +5,7 @@ ghost use Rattle.fault.specs.declared.kinds.Fault.TheVariants.{Memory, NoPlace};
 ghost use Rattle.raster.specs.Size.{IsScreenSize};
 ghost use Rattle.shared_screen.specs.Publishing.{opening};
 
-use crate::demand::{FormClaim, FormDemand};
+use crate::demand::{Claim, Demand};
 use crate::ends::{BESIDE_PLACES, eyes};
 use crate::eye::Eye;
 use crate::glance::Glance;
@@ -28,7 +28,7 @@ fn watchers<J: Naming>(
     height: u64,
     eyes: Vec<Eye<J>>,
     glance: &Glance<J>,
-    demand: &Arc<FormDemand, Global>,
+    demand: &Arc<Demand, Global>,
 ) -> Result<Vec<Watcher<J>>, Fault>
     requires size { (width ≡ J.width) × (height ≡ J.height) }
     requires empty { All (λ eye. eye ≡ []) eyes.items × (glance.now ≡ []) }
@@ -39,7 +39,7 @@ fn watchers<J: Naming>(
 {
     let mut made = Vec::new(alloc);
     for eye in eyes {
-        let claim = FormClaim::new(Arc::try_clone(demand)?);
+        let claim = Claim::new(Arc::try_clone(demand)?);
         made.push(Watcher::new(width, height, eye, glance.another()?, claim))?;
     }
     Ok(made)
@@ -71,7 +71,7 @@ pub fn shared<J: Naming, R: Wait + Drop + Copy>(
     let opening = Stamped::opening(alloc, width, height, &front)?;
     let handle = opened(rt, alloc, &opening, places)?;
     let eyes = eyes(alloc, &handle, &front, places)?;
-    let demand = Arc::new(alloc, FormDemand::new())?;
+    let demand = Arc::new(alloc, Demand::new())?;
     let watchers = watchers(alloc, width, height, eyes, &glance, &demand)?;
     let spares = Spares::new(alloc, width, height, opening, places + BESIDE_PLACES)?;
     Ok((Publisher::new(handle, raiser, spares, demand), watchers))

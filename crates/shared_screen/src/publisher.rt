@@ -7,7 +7,7 @@ ghost use Rattle.shared_screen.specs.History.{Put, Raise, puts_of};
 ghost use Rattle.shared_screen.specs.Publishing.{IsLeftByRefusal, opening};
 
 use crate::change::Change;
-use crate::demand::FormDemand;
+use crate::demand::Demand;
 use crate::front::HistoryFront;
 use crate::naming::Naming;
 use crate::news::News;
@@ -36,7 +36,7 @@ where
     raiser: Raiser<J>,
     front: HistoryFront<J>,
     spares: Spares<J>,
-    demand: Arc<FormDemand, Global>,
+    demand: Arc<Demand, Global>,
 }
 
 impl<J: Naming, R: Wait + Drop> Model for Publisher<J, R>
@@ -64,7 +64,7 @@ impl<J: Naming, R: Wait + Drop> Publisher<J, R> {
         handle: WriteHandle<Published<J>, Stamped<J>, R>,
         raiser: Raiser<J>,
         spares: Spares<J>,
-        demand: Arc<FormDemand, Global>,
+        demand: Arc<Demand, Global>,
     ) -> Self
         requires { (published handle ≡ []) × (pending handle ≡ []) × (raiser ≡ []) }
         ensures { result ≡ opening }
@@ -146,7 +146,7 @@ impl<J: Naming + Publishes, R: Wait + Drop> Puts for Publisher<J, R> {
             return Err((Fault::Memory, patch));
         }
         // Everything that may be refused memory comes first, except the entry of the operation, whose room is kept.
-        let wanted = self.demand.format();
+        let wanted = self.demand.wanted();
         let Ok(board) = self.spares.next(self.handle.published(), &patch, wanted) else {
             return Err((Fault::Memory, patch));
         };

@@ -12,8 +12,7 @@ use crate::naming::Naming;
 use crate::published::Published;
 use crate::stamped::Stamped;
 use fault::Fault;
-use painter::{Board, Patch};
-use pixel_format::Format;
+use painter::{Board, Patch, Wanted};
 use std::alloc::Global;
 use std::marker::Model;
 use std::sync::Arc;
@@ -162,14 +161,14 @@ impl<J: Naming> Spares<J> {
         Ok(opening)
     }
 
-    /// A board that nobody else has and that shows what the newest shows and one update more. If a format is `wanted`,
-    /// it keeps forms and encoded areas of what changes (`painter::Board::catch_up`). It fails (`Memory`) where memory
-    /// is refused, or where every board that there may be is being read.
+    /// A board that nobody else has and that shows what the newest shows and one update more. It keeps what is `wanted`
+    /// of it (`painter::Board::catch_up`). It fails (`Memory`) where memory is refused, or where every board that there
+    /// may be is being read.
     pub fn next(
         &mut self,
         newest: &Published<J>,
         patch: &Patch,
-        wanted: Option<Format>,
+        wanted: Wanted,
     ) -> Result<Arc<Board, Global>, Fault>
         requires size { (patch.now.width ≡ J.width) × (patch.now.height ≡ J.height) }
         requires number { length (puts_of newest.now) < 2 ^ 62 }

@@ -13,8 +13,7 @@ use crate::front::HistoryFront;
 use crate::naming::Naming;
 use crate::published::Published;
 use fault::Fault;
-use painter::{Board, Patch};
-use pixel_format::Format;
+use painter::{Board, Patch, Wanted};
 use std::alloc::Global;
 use std::marker::Model;
 use std::sync::Arc;
@@ -42,14 +41,9 @@ impl<J: Naming> Model for Stamped<J> {
         × (s.number ≡ length (puts_of s.front)) };
 }
 
-/// Where nobody else has the board, makes it show what a newer one shows and one update more, and answers true. If a
-/// format is `wanted`, it keeps forms and encoded areas of what changes (`Board::catch_up`).
-fn go_on(
-    board: &mut Arc<Board, Global>,
-    newer: &Board,
-    patch: &Patch,
-    wanted: Option<Format>,
-) -> bool
+/// Where nobody else has the board, makes it show what a newer one shows and one update more, and answers true. It keeps
+/// what is `wanted` of it (`Board::catch_up`).
+fn go_on(board: &mut Arc<Board, Global>, newer: &Board, patch: &Patch, wanted: Wanted) -> bool
     requires same { IsSameScreen (arc_value board.old) newer.now }
     requires size { (patch.now.width ≡ (arc_value board.old).width)
         × (patch.now.height ≡ (arc_value board.old).height) }
@@ -119,13 +113,13 @@ impl<J: Naming> Stamped<J> {
         Arc::strong_count(&self.board) == 1
     }
 
-    /// Where nobody else has the board, gives it back once it shows what the newest shows and one update more. If a
-    /// format is `wanted`, it keeps forms and encoded areas of what changes (`Board::catch_up`).
+    /// Where nobody else has the board, gives it back once it shows what the newest shows and one update more. It keeps
+    /// what is `wanted` of it (`Board::catch_up`).
     pub(crate) fn renewed(
         self,
         newest: &Published<J>,
         patch: &Patch,
-        wanted: Option<Format>,
+        wanted: Wanted,
     ) -> Option<Arc<Board, Global>>
         requires size { (patch.now.width ≡ J.width) × (patch.now.height ≡ J.height) }
         requires number { length (puts_of newest.now) < 2 ^ 62 }

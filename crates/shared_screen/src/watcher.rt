@@ -10,7 +10,7 @@ ghost use Rattle.reflect_core.specs.Source.{IsCutOf};
 ghost use Rattle.shared_screen.specs.Reaches.{Reaches};
 ghost use Rattle.shared_screen.specs.History.{puts_of, ArePublished};
 
-use crate::demand::FormClaim;
+use crate::demand::Claim;
 use crate::eye::Eye;
 use crate::glance::Glance;
 use crate::naming::Naming;
@@ -18,7 +18,7 @@ use crate::news::News;
 use crate::publisher::Publisher;
 use crate::publishes::Publishes;
 use fault::Fault;
-use pixel_format::Format;
+use painter::Wanted;
 use raster::Rect;
 use reflect_core::{Cut, ScreenSource};
 use std::marker::Model;
@@ -36,7 +36,7 @@ pub struct Watcher<J: Naming> {
     // The greatest tally that it has seen or was told, and the number of its last cut.
     told: u64,
     last: u64,
-    claim: FormClaim,
+    claim: Claim,
 }
 
 impl<J: Naming> Model for Watcher<J> {
@@ -54,13 +54,7 @@ impl<J: Naming> Model for Watcher<J> {
 
 impl<J: Naming> Watcher<J> {
     /// A watcher that knows no update, and whose tally is 0.
-    pub(crate) fn new(
-        width: u64,
-        height: u64,
-        eye: Eye<J>,
-        glance: Glance<J>,
-        claim: FormClaim,
-    ) -> Self
+    pub(crate) fn new(width: u64, height: u64, eye: Eye<J>, glance: Glance<J>, claim: Claim) -> Self
         requires { (width ≡ J.width) × (height ≡ J.height) × (eye ≡ []) × (glance ≡ []) }
         ensures { result ≡ record { updates = []; tally = 0 } }
     {
@@ -188,9 +182,9 @@ impl<J: Naming> ScreenSource for Watcher<J> {
         Ok(number)
     }
 
-    /// Notes in which format forms and encoded areas are wanted for this watcher. Where two watchers or more want them,
-    /// the publisher has them made of what changes.
-    fn want_forms(&self, format: Option<Format>) {
-        self.claim.set(format);
+    /// Notes what is wanted for this watcher. Where two watchers or more want forms, the publisher has forms and encoded
+    /// areas made of what changes; where two or more want parts, they share those that one of them makes.
+    fn want(&self, wanted: Wanted) {
+        self.claim.set(wanted);
     }
 }

@@ -19,7 +19,7 @@ use std::sync::Wait;
 use viewer_session::Session;
 
 /// Has the session take a turn, unless bytes are unsent. Then it tells `progress` how far the viewer is, and the source
-/// whether to lend forms for the viewer. It answers whether no bytes were unsent.
+/// what to lend for the viewer. It answers whether no bytes were unsent.
 pub(crate) fn offer<S: ScreenSource, P: Progress>(
     source: &mut S,
     session: &mut Session,
@@ -40,7 +40,7 @@ pub(crate) fn offer<S: ScreenSource, P: Progress>(
     }
     session.turn(source)?;
     progress.count(session.answers(), session.shown());
-    source.want_forms(session.wants_forms());
+    source.want(session.wants());
     Ok(true)
 }
 

@@ -18,6 +18,7 @@ use crate::progress::Progress;
 use crate::serve::{hear, offer, relay, say};
 use fault::Fault;
 use link::Link;
+use painter::Wanted;
 use reflect_core::ScreenSource;
 use roles::InputSink;
 use std::marker::PhantomData;
@@ -267,7 +268,7 @@ impl<'a, L: Link, S: ScreenSource, K: InputSink, T: Drop> Visit<'a, L, S, K, T> 
             × (self.new.first ≡ self.old.first) }
         ensures served { self.new.is_served ≡ false }
     {
-        self.source.want_forms(None);
+        self.source.want(Wanted::NOTHING);
         self.link.flush();
         self.is_served = false;
     }

@@ -20,6 +20,7 @@ use crate::form::AnswerForm;
 use crate::outgoing::Outgoing;
 use fault::Fault;
 use joined_runs::Runs;
+use painter::Wanted;
 use pixel_format::Format;
 use raster::{Encoding, Size};
 pub use reading::Fed;
@@ -313,14 +314,19 @@ impl Session {
         self.asked.last_cut().unwrap_or(0)
     }
 
-    /// The format in which answers would use what a source lends, forms of tiles and encoded areas: they are written in
-    /// joined runs, in Hextile without ZRLE, and in a format that keeps colours apart. No clause speaks of it.
-    pub fn wants_forms(&self) -> Option<Format> {
-        let uses = self.runs == Runs::Joined
+    /// What answers would use of what a source lends: forms of tiles and encoded areas where they are written in joined
+    /// runs, in Hextile without ZRLE, and in a format that keeps colours apart; shared parts where they are in ZRLE. No
+    /// clause speaks of it.
+    pub fn wants(&self) -> Wanted {
+        let in_zrle = self.zrle && self.choice.zrle;
+        let uses_forms = self.runs == Runs::Joined
             && self.choice.kind == Encoding::Hextile
-            && !(self.zrle && self.choice.zrle)
+            && !in_zrle
             && self.format.keeps_apart();
-        uses.then_some(self.format)
+        Wanted {
+            forms: uses_forms.then_some(self.format),
+            parts: in_zrle,
+        }
     }
 
     /// Whether the viewer stands between two messages: its hello is done, there is no fault, and no byte was used since

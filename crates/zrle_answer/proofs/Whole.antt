@@ -1,5 +1,5 @@
 -- Rectangles of an answer are written one behind another.
-use Rattle.std.proofs.Common.{◌≡◌, ℕ, ◌+◌, ◌*◌, ◌<◌, ◌≤◌, Bool, true, List, [], ◌∷◌, ◌++◌, ◌∙◌, length, take, drop, get_or, Option, Some, None, refl, sym, ap, subst, arith, add-one}
+use Rattle.std.proofs.Common.{◌≡◌, ℕ, ◌+◌, ◌*◌, ◌<◌, ◌≤◌, Bool, true, List, [], ◌∷◌, ◌++◌, ◌∙◌, length, take, drop, get_or, Option, Some, None, refl, sym, ap, subst, arith, add-one, false}
 use Rattle.std.specs.List.{All}
 use Rattle.std.proofs.lemmas.List.{append_assoc, append-nil, drop_all, get_or-map, length-map}
 use Rattle.std.proofs.Math.Nat.{mul-pos}
@@ -79,6 +79,10 @@ all_so_far style screen may_copy all left above begun now old new is before =
     }
 
 -- ---- those of a plan
+
+-- What stands where there is nothing.
+abbrev pub nowhere : Planned
+nowhere = record { area = record { x = 0; y = 0; w = 0; h = 0 }; is_plain = false }
 
 pub part_at : (w h : ℕ) (plan : List Planned) (k : ℕ) (d : Planned) → k < length plan → All (IsPart w h) (areas_of plan) → IsPart w h (get_or plan k d).area
 part_at w h plan k d lt parts =

@@ -6,6 +6,7 @@ use Rattle.raster.specs.Screen.{Canvas, value_at}
 use Rattle.zrle_codec.specs.Areas.{AppendsZrle, IsZrle, area_values}
 use Rattle.zrle_codec.specs.OneThing.{AreasShowTheirColours}
 use Rattle.zrle_codec.specs.Reading.{inflated, zlib_head}
+use Rattle.shared_parts.specs.Parts.{ShowsArea}
 use Rattle.zrle_answer.specs.Rectangle.{ZlibStream, zrle_rectangle_bytes}
 use Rattle.zrle_answer.specs.Answer.{ZrleStyle, IsSpelled, shown_in}
 use Rattle.zrle_answer.specs.Answer.IsSpelled.{compressed}
@@ -34,15 +35,25 @@ spells_part screen r begun part style may_copy above before is few may e =
       refl,
     )
 
-pub appends_part : (format : PixelFormat) (width : ℕ) (colours : List ℕ) (r : Rect) (begun : Bool) (old new none items : List ℕ) → AreasShowTheirColours → IsAccepted format → none ≡ []
-    → AppendsZrle format r.w r.h (area_values format width colours r) none items → length items ≤ length none + 2 ^ 27 → new ≡ old ++ zrle_rectangle_bytes r (head_unless begun ++ items) → AppendsRectangle format (value_at width colours) r begun old new
-appends_part format width colours r begun old new none items show ok empty appends few are =
+-- Behind the old bytes stands a rectangle whose data are a part that shows its area.
+pub appends_shown : (format : PixelFormat) (width : ℕ) (colours : List ℕ) (r : Rect) (begun : Bool) (old new part : List ℕ) → AreasShowTheirColours → IsAccepted format
+    → ShowsArea format width colours r part → new ≡ old ++ zrle_rectangle_bytes r (head_unless begun ++ part) → AppendsRectangle format (value_at width colours) r begun old new
+appends_shown format width colours r begun old new part show ok shows are =
     let screen : Canvas = value_at width colours in
-    let part : appends.part ≡ items = sym (appends.appended ∙ ap (λ t. t ++ appends.part) empty) in
-    let shown : IsZrle format r.w r.h (shown_in format screen r) items = subst (λ canvas. IsZrle format r.w r.h canvas items) (show format width colours r ok) (subst (IsZrle format r.w r.h (area_values format width colours r)) part appends.is) in
+    let shown : IsZrle format r.w r.h (shown_in format screen r) part = subst (λ canvas. IsZrle format r.w r.h canvas part) (show format width colours r ok) shows.is in
     record {
-      bytes = zrle_rectangle_bytes r (head_unless begun ++ items);
+      bytes = zrle_rectangle_bytes r (head_unless begun ++ part);
       appended = are;
       spells = λ style may_copy above before same may e.
-          spells_part screen r begun items style may_copy above before (subst (λ f. IsZrle f r.w r.h (shown_in f screen r) items) (sym same) shown) (omega (arith, few, ap length empty)) may e;
+          spells_part screen r begun part style may_copy above before (subst (λ f. IsZrle f r.w r.h (shown_in f screen r) part) (sym same) shown) shows.few may e;
+    }
+
+-- What was appended to nothing is such a part.
+pub shows_area : (format : PixelFormat) (width : ℕ) (colours : List ℕ) (r : Rect) (none part : List ℕ) → none ≡ []
+    → AppendsZrle format r.w r.h (area_values format width colours r) none part → length part ≤ length none + 2 ^ 27 → ShowsArea format width colours r part
+shows_area format width colours r none part empty appends few =
+    let same : appends.part ≡ part = sym (appends.appended ∙ ap (λ t. t ++ appends.part) empty) in
+    record {
+      is = subst (IsZrle format r.w r.h (area_values format width colours r)) same appends.is;
+      few = omega (arith, few, ap length empty);
     }

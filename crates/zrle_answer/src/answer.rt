@@ -145,6 +145,7 @@ impl AnswerWriter {
         if !is_mostly_zrle(plan) {
             return Err(Unwritten::NotWorthIt);
         }
+        self.writer.make_parts(style, cut, plan);
         out.extend_from_slice(&head_of(plan.len() as u16))?;
         append_all(&mut self.writer, style, cut, plan, begun, limit, out)
     }

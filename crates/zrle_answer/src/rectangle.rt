@@ -1,9 +1,10 @@
 //! One rectangle in ZRLE (RFC 6143, sections 7.6.1 and 7.7.6).
 
-ghost use Rattle.std.specs.Prelude.{◌≡◌, ◌+◌, ◌*◌, ◌^◌, ◌≤◌, ◌++◌, length, OnOk, OnErr};
+ghost use Rattle.std.specs.Prelude.{◌≡◌, ◌+◌, ◌*◌, ◌^◌, ◌≤◌, ◌++◌, length, IfOk, OnOk, OnErr};
 ghost use Rattle.pixel_format.specs.PixelFormat.{IsAccepted};
 ghost use Rattle.raster.specs.Screen.{IsWithin, value_at};
 ghost use Rattle.rfb_wire.specs.Writing.{rectangle_head_bytes};
+ghost use Rattle.shared_parts.specs.Parts.{ShowsArea};
 ghost use Rattle.zrle_answer.specs.Rectangle.{zrle_rectangle_bytes};
 ghost use Rattle.zrle_answer.specs.Written.{AppendsRectangle, head_unless};
 
@@ -76,6 +77,28 @@ impl RectangleWriter {
         })
     }
 
+    /// The part of an area of a screen of colours, which stand in rows of `width`. It stays until the next one is made.
+    /// It fails where memory is refused.
+    pub(crate) fn part(
+        &mut self,
+        pixels: &Cpixels,
+        colours: &[u32],
+        width: usize,
+        height: usize,
+        area: &Rect,
+    ) -> Result<&[u8], AllocError>
+        requires size { length colours.now ≡ width * height }
+        requires small { (width ≤ 4096) × (height ≤ 4096) }
+        requires within { IsWithin area.now width height }
+        ensures { IfOk result (λ part.
+            ShowsArea pixels.now.format width colours.now area.now part.now) }
+    {
+        self.part.clear();
+        self.encoder
+            .append(pixels, colours, width, height, area, &mut self.part)?;
+        Ok(self.part.as_slice())
+    }
+
     /// Appends an area of a screen of colours, which stand in rows of `width`, for a viewer whose zlib stream has
     /// `begun` or has not. Where memory is refused nothing is appended.
     pub fn append(
@@ -97,9 +120,7 @@ impl RectangleWriter {
         ensures err { OnErr result (out.new.items ≡ out.old.items) }
     {
         areas_show_their_colours();
-        self.part.clear();
-        self.encoder
-            .append(pixels, colours, width, height, area, &mut self.part)?;
-        append_part(area, begun, self.part.as_slice(), out)
+        let part = self.part(pixels, colours, width, height, area)?;
+        append_part(area, begun, part, out)
     }
 }

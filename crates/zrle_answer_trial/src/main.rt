@@ -3,6 +3,7 @@
 
 mod cases;
 mod screens;
+mod sharing;
 mod words;
 
 use cases::print_rectangle;

@@ -4,6 +4,7 @@ ghost use Rattle.std.specs.Prelude.{◌≡◌, ◌*◌, length, IfOk};
 ghost use Rattle.raster.specs.Size.{IsScreenSize};
 
 use crate::cases::{SCREEN_SIDE, rect_of};
+use crate::sharing::{expect_the_same, shared_cut_of};
 use crate::words::{format_of, numbers_of, parted};
 use joined_runs::Runs;
 use painter::{Board, Painter};
@@ -79,8 +80,8 @@ fn style_of(alloc: Global, word: &str) -> Result<Style, Fail> {
     })
 }
 
-/// Prints, in hex, the answer `FORMAT WIDTH HEIGHT X Y W H LIMIT DUE COLOURS`, or why there is none. Answers whether the
-/// stream has begun after it.
+/// Prints, in hex, the answer `FORMAT WIDTH HEIGHT X Y W H LIMIT DUE COLOURS`, or why there is none. Two viewers that
+/// share parts have to be sent the same. Answers whether the stream has begun after it.
 pub(crate) fn print_answer(
     rt: &HostRuntime,
     writer: &mut AnswerWriter,
@@ -125,6 +126,9 @@ pub(crate) fn print_answer(
         }
         Err(Unwritten::Memory) => return Err(Fail::new("memory was refused")),
     };
+    let mut shared = shared_cut_of(alloc, width as u64, height as u64, colours.as_slice())?;
+    mark(&mut shared, due)?;
+    expect_the_same(alloc, &shared, &area, &style, begun, out.as_slice())?;
     let text = hex::encode(alloc, out.as_slice())?;
     println!(rt; "{text}")?;
     Ok(now)

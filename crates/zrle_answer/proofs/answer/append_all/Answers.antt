@@ -4,12 +4,8 @@ use Rattle.update_encoder.specs.Style.{style_in}
 use Rattle.zrle_answer.specs.Planned.{areas_of}
 use Rattle.zrle_answer.specs.Written.{AppendsAll}
 use Rattle.zrle_answer.specs.declared.plan.Planned.{Planned}
-use Rattle.zrle_answer.proofs.Whole.{all_so_far, from_end, from_place, one_further, part_at, some_positions}
+use Rattle.zrle_answer.proofs.Whole.{all_so_far, from_end, from_place, nowhere, one_further, part_at, some_positions}
 use Rattle.zrle_answer.proofs.answer.append_all.Goals as goal
-
--- What stands where there is nothing.
-abbrev nowhere : Planned
-nowhere = record { area = record { x = 0; y = 0; w = 0; h = 0 }; is_plain = false }
 
 pub append-requires-clause-within : goal.append-requires-clause-within
 append-requires-clause-within c =

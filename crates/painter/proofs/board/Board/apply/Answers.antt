@@ -63,4 +63,5 @@ invariant_of-self c =
       search rules,
       subst (Are s.width s.height) c.as_slice.ensures.value (subst (λ h. Are s.width h c.as_slice.result.now) high (subst (λ w. Are w patch.height c.as_slice.result.now) wide c.renew.ensures)),
       subst (λ colours. AreEncoded encoded.format (value_at s.width colours) (length encoded.bytes.items) encoded.bytes.items encoded.list.items) c.as_slice-2.ensures.value c.renew-2.ensures,
+      search rules,
     )
