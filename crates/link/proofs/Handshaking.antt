@@ -23,7 +23,7 @@ abbrev pub with_taken : LinkState → List ℕ → LinkState
 with_taken link bytes = record link { taken = link.taken ++ bytes }
 
 -- Some bytes, and then some more.
-take_further : (n m : ℕ) (xs : List ℕ) → take n xs ++ take m (drop n xs) ≡ take (n + m) xs
+pub take_further : (n m : ℕ) (xs : List ℕ) → take n xs ++ take m (drop n xs) ≡ take (n + m) xs
 take_further n m xs =
     ap (λ t. t ++ take m (drop n xs)) (sym (take-take n (n + m) xs (omega arith)))
     ∙ (ap (λ t. take n (take (n + m) xs) ++ t) (sym (drop-take n m xs)) ∙ take-append-drop n (take (n + m) xs))

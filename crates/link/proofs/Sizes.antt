@@ -6,6 +6,7 @@ use Rattle.std.proofs.lemmas.Bool.Decides.{nat_tests}
 use Rattle.byte_reading.specs.Reading.{Reading, Done, ◌>>=◌, after, bytes, padding, u16, u32, unless, Gives}
 use Rattle.fault.specs.declared.kinds.Fault.TheVariants.{BadScreen}
 use Rattle.byte_reading.proofs.ReadingLaws.{gives_bind, gives_padding}
+use Rattle.raster.specs.Size.{IsScreenSize}
 use Rattle.rfb_wire.proofs.Handshakes.{gives_after}
 use Rattle.rfb_wire.specs.Handshake.{Joined, is_size, kept_name, host_version, security, security_result, host_init, host_hello}
 
@@ -46,3 +47,8 @@ size_most n e = let most = (and_parts (nat_le 1 n) (nat_le n 4096) e).1 in grind
 
 pub joined_size : (password : Option (List ℕ)) (bs : List ℕ) (joined : Joined) → after (host_hello password) bs ≡ Done joined → HasSize joined
 joined_size password bs joined e = gives_after HasSize (host_hello password) bs joined (hello_gives password) e
+
+pub joined_screen : (password : Option (List ℕ)) (bs : List ℕ) (joined : Joined) → after (host_hello password) bs ≡ Done joined → IsScreenSize joined.w joined.h
+joined_screen password bs joined e =
+    let size = joined_size password bs joined e in
+    record { wide = (size_least joined.w size.across, size_most joined.w size.across); high = (size_least joined.h size.down, size_most joined.h size.down) }

@@ -36,10 +36,6 @@ end_of last time b (x ∷ xs) bs = end_of x.1 time b xs bs
 end_of last time b [] [] = refl
 end_of last time b [] (d ∷ bs) = end_of time time d [] bs
 
-pub said_append : (some others : List Block) → said_in (some ++ others) ≡ said_in some ++ said_in others
-said_append [] others = refl
-said_append (b ∷ some) others = ap (λ t. stamp b.time b.said ++ t) (said_append some others) ∙ sym (append_assoc (stamp b.time b.said) (said_in some) (said_in others))
-
 pub said_one : (b : Block) → said_in (b ∷ []) ≡ stamp b.time b.said
 said_one b = append-nil (stamp b.time b.said)
 
@@ -163,7 +159,7 @@ blocks_end r gone h none open_now =
     ap blocks_in (h.parts ∙ (ap (λ (xs : List ℕ). h.fed ++ xs) none ∙ append-nil h.fed)) ∙ (h.read.blocks ∙ (ap (λ (bs : List Block). gone ++ bs) open_now ∙ append-nil gone))
 
 -- What follows a reason not to read on changes nothing.
-rest_stays : (now : Reading Found) (bad : BadRecording) (xs : List ℕ) → now ≡ Done (Err bad) → rest_from now xs ≡ Done (Err bad)
+pub rest_stays : (now : Reading Found) (bad : BadRecording) (xs : List ℕ) → now ≡ Done (Err bad) → rest_from now xs ≡ Done (Err bad)
 rest_stays now bad [] e = e
 rest_stays now bad (b ∷ xs) e = rest_stays (going_on (step now b)) bad xs (ap (λ (r : Reading Found). going_on (step r b)) e)
 

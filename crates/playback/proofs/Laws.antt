@@ -1,8 +1,9 @@
 -- What is heard of whole sessions: each of our openings is heard as one of version 3.8.
-use Rattle.std.proofs.Common.{◌≡◌, ◌≢◌, ℕ, zero, suc, ◌==◌, ◌≤◌, true, false, List, [], ◌∷◌, ◌++◌, length, take, drop, Option, None, Some, Ok, refl, sym, ap, ◌∙◌, arith, append_assoc, length-append}
+use Rattle.std.proofs.Common.{◌≡◌, ◌≢◌, ℕ, zero, suc, ◌==◌, ◌<◌, ◌≤◌, true, false, List, [], ◌∷◌, ◌++◌, length, take, drop, Option, None, Some, Ok, refl, sym, ap, subst, ◌∙◌, arith, inl, inr, append_assoc, append-nil, length-append, length-drop}
 use Rattle.std.specs.List.{list_any}
-use Rattle.std.proofs.lemmas.List.{take_at, drop_at, take-map}
-use Rattle.byte_reading.specs.Reading.{Reading, Done, after, taken}
+use Rattle.std.proofs.lemmas.Bool.{cases_lt}
+use Rattle.std.proofs.lemmas.List.{take_at, drop_at, take-map, take-append-drop, take-append-le}
+use Rattle.byte_reading.specs.Reading.{Reading, Done, Faulty, Want, after, taken, wants_more}
 use Rattle.byte_reading.specs.Reading.{Spells}
 use Rattle.byte_reading.proofs.ReadingLaws.{after-append, after-done}
 use Rattle.rfb_wire.specs.Handshake.{Joined, host_hello, said_to_viewer}
@@ -11,6 +12,7 @@ use Rattle.recording.specs.Recording.{Block, AreBlocks, recording_bytes, said_in
 use Rattle.recording.specs.Waiting.{stamp}
 use Rattle.recording.specs.BlockReading.{blocks_in, blocks_from, rest_of}
 use Rattle.recording.proofs.ReadBack.{in_pieces, recording_is_read}
+use Rattle.recording.proofs.Recorded.{said_append}
 use Rattle.recording_index.specs.KeyMoments.{IsAt}
 use Rattle.recording_index.specs.declared.moment.KeyMoment.{KeyMoment}
 use Rattle.recording_index.proofs.Places.{leads}
@@ -19,7 +21,7 @@ use Rattle.playback.specs.Openings.{seen}
 use Rattle.playback.specs.Heard.{bytes_of, end_time, greeting, heard_in, heard_of, handshake_in, said_by, up_to}
 use Rattle.playback.proofs.Openings.{with_rest, version_then, in_3_8, in_3_7, in_3_3, security_then, counted_then, offered_some, seen_done, seen_number, was_seen}
 use Rattle.playback.proofs.Handshakes.{handshake_as}
-use Rattle.playback.proofs.Hearing.{same_taken, bytes_append, unstamped, heard_as, heard_grows, said_append, up_to_begins}
+use Rattle.playback.proofs.Hearing.{same_taken, bytes_append, unstamped, heard_as, heard_grows, heard_none, up_to_begins}
 
 -- ---- each opening is whole
 
@@ -89,6 +91,35 @@ handshake_heard heard text later joined spells is =
 pub own_handshake : (heard : List (ℕ × ℕ)) (w h : ℕ) (name later : List ℕ) → 1 ≤ w → w ≤ 4096 → 1 ≤ h → h ≤ 4096 → length name ≤ 255 → bytes_of heard ≡ said_to_viewer w h name 14 ++ later → bytes_of (handshake_in heard) ≡ said_to_viewer w h name 14
 own_handshake heard w h name later lw mw lh mh ln is =
     handshake_heard heard (said_to_viewer w h name 14) later (record { w = w; h = h; name = name }) (viewer_is_told None w h name lw mw lh mh ln) is
+
+-- ---- a beginning of our own
+
+open_before : {A : Type 0} (form : Reading A) (xs ys : List ℕ) → taken form (xs ++ ys) ≡ length (xs ++ ys) → 0 < length ys → wants_more (after form xs) ≡ true
+open_before (Done x) xs ys e some = absurd (omega (arith, e, length-append xs ys, some))
+open_before (Faulty fault) xs ys e some = absurd (omega (arith, e, length-append xs ys, some))
+open_before (Want more) [] ys e some = refl
+open_before (Want more) (b ∷ xs) ys e some = open_before (more b) xs ys (omega (arith, e)) some
+
+greeting_taken : taken opening greeting ≡ length greeting
+unfolding opening
+greeting_taken = refl
+
+-- It is heard as it was said, or nothing of it is, as long as its opening isn't whole.
+pub own_begins : (said : List (ℕ × ℕ)) (more later : List ℕ) → bytes_of said ++ more ≡ greeting ++ later → (left : List ℕ) × (bytes_of said ≡ bytes_of (heard_in said) ++ left)
+own_begins said more later e =
+    let bytes : List ℕ = bytes_of said in
+    let n : ℕ = length bytes in
+    elim (cases_lt n 18) [
+      | inl short ↦
+          let front : bytes ≡ take n greeting = sym (take_at bytes more n refl) ∙ (ap (take n) e ∙ take-append-le n greeting later (omega (arith, short))) in
+          let whole : bytes ++ drop n greeting ≡ greeting = ap (λ (xs : List ℕ). xs ++ drop n greeting) front ∙ take-append-drop n greeting in
+          let wants : wants_more (after opening bytes) ≡ true = open_before opening bytes (drop n greeting) (subst (λ (xs : List ℕ). taken opening xs ≡ length xs) (sym whole) greeting_taken) (omega (arith, length-drop n greeting, short)) in
+          (bytes, ap (λ (xs : List (ℕ × ℕ)). bytes_of xs ++ bytes) (sym (heard_none said wants)))
+      | inr long ↦
+          let front : take 18 bytes ≡ greeting = sym (take-append-le 18 bytes more (omega (arith, long))) ∙ (ap (take 18) e ∙ take_at greeting later 18 refl) in
+          let parts : bytes ≡ greeting ++ drop 18 bytes = sym (take-append-drop 18 bytes) ∙ ap (λ (xs : List ℕ). xs ++ drop 18 bytes) front in
+          ([], sym (append-nil (bytes_of (heard_in said)) ∙ own_heard said (drop 18 bytes) parts))
+    ]
 
 -- ---- more of a file
 

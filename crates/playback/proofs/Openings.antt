@@ -127,16 +127,16 @@ IsFine (Done x) = Unit {0}
 IsFine (Faulty fault) = ⊥
 IsFine (Want more) = (b : ℕ) → IsFine (more b)
 
-fine_bind : {A B : Type 0} (form : Reading A) (next : A → Reading B) → IsFine form → ((x : A) → IsFine (next x)) → IsFine (form >>= next)
+pub fine_bind : {A B : Type 0} (form : Reading A) (next : A → Reading B) → IsFine form → ((x : A) → IsFine (next x)) → IsFine (form >>= next)
 fine_bind (Done x) next h k = k x
 fine_bind (Faulty f) next h k = absurd h
 fine_bind (Want more) next h k = λ b. fine_bind (more b) next (h b) k
 
-fine_bytes : (n : ℕ) → IsFine (bytes n)
+pub fine_bytes : (n : ℕ) → IsFine (bytes n)
 fine_bytes zero = tt
 fine_bytes (suc n) = λ b. fine_bind (bytes n) (λ others. Done (b ∷ others)) (fine_bytes n) (λ others. tt)
 
-fine_cond : {A : Type 0} (b : Bool) (r q : Reading A) → IsFine r → IsFine q → IsFine (cond b r q)
+pub fine_cond : {A : Type 0} (b : Bool) (r q : Reading A) → IsFine r → IsFine q → IsFine (cond b r q)
 fine_cond true r q h k = h
 fine_cond false r q h k = k
 
@@ -161,13 +161,13 @@ fine_opening : IsFine opening
 unfolding opening
 fine_opening = fine_bind (bytes 12) by_version (fine_bytes 12) fine_version
 
-fine_after : {A : Type 0} (r : Reading A) (xs : List ℕ) → IsFine r → IsFine (after r xs)
+pub fine_after : {A : Type 0} (r : Reading A) (xs : List ℕ) → IsFine r → IsFine (after r xs)
 fine_after r [] h = h
 fine_after (Done x) (b ∷ xs) h = fine_after (Done x) xs tt
 fine_after (Faulty f) (b ∷ xs) h = absurd h
 fine_after (Want more) (b ∷ xs) h = fine_after (more b) xs (h b)
 
-fine_wants : (r : Reading Opened) → IsFine r → whole_of r ≡ None → wants_more r ≡ true
+pub fine_wants : {A : Type 0} (r : Reading A) → IsFine r → whole_of r ≡ None → wants_more r ≡ true
 fine_wants (Done x) h e = absurd cc
 fine_wants (Faulty f) h e = absurd h
 fine_wants (Want more) h e = refl

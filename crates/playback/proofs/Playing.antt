@@ -23,7 +23,8 @@ use Rattle.playback.specs.Reels.{Reel, HasBlocks, ReadsOn, IsNoMore, first_in, f
 use Rattle.playback.specs.Playing.{Played, HasCome, HasUsed, HasHandshake, HasFront, Plays, PlaysAt, IsAtPlace, IsPlaying, IsPlayed, IsPlayedOut, IsWhy, IsGoing, IsReady, IsAtKey, IsDue, IsLate}
 use Rattle.playback.specs.declared.bad.BadPlayback.{BadPlayback}
 use Rattle.playback.specs.declared.bad.BadPlayback.TheVariants.{Recording, Opening, File}
-use Rattle.playback.proofs.Hearing.{unstamped, bytes_append, bytes_len, stamp_append, said_append, said_one, all_stamped, heard_none, heard_more, heard_opens, stays_open, up_to_append, up_to_one, up_to_none, up_to_begins, blocks_all, blocks_end, rest_bad, any_later}
+use Rattle.recording.proofs.Recorded.{said_append}
+use Rattle.playback.proofs.Hearing.{unstamped, bytes_append, bytes_len, stamp_append, said_one, all_stamped, heard_none, heard_more, heard_opens, stays_open, up_to_append, up_to_one, up_to_none, up_to_begins, blocks_all, blocks_end, rest_bad, any_later}
 use Rattle.playback.proofs.Handshakes.{handshake_begun, handshake_begins, handshake_ends, open_handshake, said_none}
 
 -- ---- what was used, and what is left

@@ -10,12 +10,16 @@ ghost use Rattle.playback.specs.Heard.{bytes_of, greeting, heard_in, heard_of, h
 
 /// A session that opens by version 3.3, 3.5, 3.7 or 3.8 with security type None is heard as one of version 3.8: what
 /// follows its opening is heard as it was said. Where it is a session of version 3.8 that offers nothing but None, as
-/// each that was recorded here is, all of it is heard as it was said.
+/// each that was recorded here is, all of it is heard as it was said; and of a beginning of it, wherever that ends, a
+/// beginning is heard.
 pub fn openings_are_heard()
     ensures heard { (said : List (ℕ × ℕ)) (opening later : List ℕ) → IsOpening opening
         → bytes_of said ≡ opening ++ later → bytes_of (heard_in said) ≡ greeting ++ later }
     ensures same { (said : List (ℕ × ℕ)) (later : List ℕ) → bytes_of said ≡ greeting ++ later
         → bytes_of (heard_in said) ≡ bytes_of said }
+    ensures begins { (said : List (ℕ × ℕ)) (more later : List ℕ)
+        → bytes_of said ++ more ≡ greeting ++ later
+        → (left : List ℕ) × (bytes_of said ≡ bytes_of (heard_in said) ++ left) }
 {}
 
 /// What is heard of the beginning of a file is a beginning of what is heard of the file.

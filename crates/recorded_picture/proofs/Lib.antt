@@ -1,3 +1,2 @@
 pub mod Avoids
-pub mod Sizes
 pub mod Shows

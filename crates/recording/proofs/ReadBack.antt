@@ -97,7 +97,7 @@ blocks_are_read last (b ∷ blocks) h =
     let more = blocks_are_read b.time blocks h.3 in
     (one.0 ∙ ap (λ t. b ∷ t) more.0, one.1 ∙ more.1)
 
-next_wants : (last : ℕ) → wants_more (next_block last) ≡ true
+pub next_wants : (last : ℕ) → wants_more (next_block last) ≡ true
 unfolding next_block
 next_wants last = refl
 

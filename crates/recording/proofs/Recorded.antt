@@ -6,7 +6,7 @@ use Rattle.recording.specs.Recording.{Block, line, block_bytes, blocks_bytes, re
 use Rattle.recording.specs.Waiting.{room, with_more, as_blocks, stamp, IsRecorded}
 use Rattle.recording.specs.declared.form.TheConstants.{LONGEST_READ, LONGEST_WRITTEN}
 
-said_append : (some others : List Block) → said_in (some ++ others) ≡ said_in some ++ said_in others
+pub said_append : (some others : List Block) → said_in (some ++ others) ≡ said_in some ++ said_in others
 said_append [] others = refl
 said_append (b ∷ some) others = ap (λ t. stamp b.time b.said ++ t) (said_append some others) ∙ sym (append_assoc (stamp b.time b.said) (said_in some) (said_in others))
 
