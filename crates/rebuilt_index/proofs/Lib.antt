@@ -5,3 +5,4 @@ pub mod Pieces
 pub mod Rebuilt
 pub mod Sought
 pub mod Steps
+pub mod Stopping

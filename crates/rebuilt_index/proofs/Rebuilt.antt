@@ -1,12 +1,13 @@
 -- What is known of a recording that is read block after block.
-use Rattle.std.proofs.Common.{◌≡◌, ℕ, zero, suc, ◌+◌, ◌≤◌, Bool, true, false, if◌then◌else◌, List, [], ◌∷◌, ◌++◌, length, take, drop, Option, Some, None, Result, Ok, Err, refl, sym, ap, subst, ◌∙◌, arith, append_assoc, length-append}
+use Rattle.std.proofs.Common.{◌≡◌, ℕ, zero, suc, ◌+◌, ◌≤◌, true, if◌then◌else◌, List, [], ◌∷◌, ◌++◌, length, take, drop, Option, Some, None, Result, Ok, Err, refl, sym, ap, subst, ◌∙◌, arith, append_assoc, length-append}
 use Rattle.std.specs.Prelude.{bytes_eq, nat_lt, replicate, option_map}
 use Rattle.std.specs.Int.{w32, to_be_bytes}
 use Rattle.std.proofs.lemmas.List.{append-nil, length-replicate, take_all, take-append-drop}
 use Rattle.std.proofs.lemmas.Grind.{flat_map-append}
-use Rattle.byte_reading.specs.Reading.{Reading, Done, Faulty, Want, ◌>>=◌, Feeds, after, taken, bytes, padding, step, u32, wants_more, whole_of}
+use Rattle.byte_reading.specs.Reading.{Reading, Done, Faulty, Want, ◌>>=◌, Feeds, after, taken, bytes, padding, u32, wants_more, whole_of}
 use Rattle.byte_reading.proofs.ReadingLaws.{after-append, after-taken, done_from, taken-append, taken-nil, taken-open, taken-taken, taken-le, wants_from}
-use Rattle.recording.proofs.ReadBack.{begins_read, feeds_read, goes_on_read}
+use Rattle.recording.proofs.ReadBack.{begins_read, feeds_read, goes_on_read, next_wants}
+use Rattle.playback.proofs.Openings.{IsFine, fine_after, fine_bind, fine_bytes, fine_cond, fine_wants}
 use Rattle.rfb_wire.specs.Handshake.{Joined, host_hello}
 use Rattle.rfb_wire.specs.Joining.{ahead as hello_ahead}
 use Rattle.recording.specs.Recording.{Block, block_bytes, blocks_bytes, padding_len, recording_bytes, line}
@@ -53,20 +54,6 @@ first_place = refl
 
 -- ---- a recording is never at fault as bytes are
 
-abbrev pub IsFine : {A : Type 0} → Reading A → Type 0
-IsFine (Done x) = Unit {0}
-IsFine (Faulty fault) = ⊥
-IsFine (Want more) = (b : ℕ) → IsFine (more b)
-
-then_fine : {A B : Type 0} (r : Reading A) (next : A → Reading B) → IsFine r → ((x : A) → IsFine (next x)) → IsFine (r >>= next)
-then_fine (Done x) next a b = b x
-then_fine (Faulty fault) next a b = a
-then_fine (Want more) next a b = λ k. then_fine (more k) next (a k) b
-
-bytes_fine : (n : ℕ) → IsFine (bytes n)
-bytes_fine zero = tt
-bytes_fine (suc n) = λ b. then_fine (bytes n) (λ others. Done (b ∷ others)) (bytes_fine n) (λ x. tt)
-
 padding_fine : {A : Type 0} (n : ℕ) (r : Reading A) → IsFine r → IsFine (padding n r)
 padding_fine zero r a = a
 padding_fine (suc n) r a = λ b. padding_fine n r a
@@ -74,47 +61,25 @@ padding_fine (suc n) r a = λ b. padding_fine n r a
 u32_fine : IsFine u32
 u32_fine = λ a b c d. tt
 
-if_fine : {A : Type 0} (c : Bool) (r s : Reading A) → IsFine r → IsFine s → IsFine (if c then r else s)
-if_fine true r s a b = a
-if_fine false r s a b = b
-
 body_fine : (last len : ℕ) → IsFine (body last len)
 body_fine last len =
-    then_fine (bytes len) (λ said. padding (padding_len len) (u32 >>= λ time. Done (timed last said time))) (bytes_fine len) (λ said.
-    padding_fine (padding_len len) (u32 >>= λ time. Done (timed last said time)) (then_fine u32 (λ time. Done (timed last said time)) u32_fine (λ time. tt)))
+    fine_bind (bytes len) (λ said. padding (padding_len len) (u32 >>= λ time. Done (timed last said time))) (fine_bytes len) (λ said.
+    padding_fine (padding_len len) (u32 >>= λ time. Done (timed last said time)) (fine_bind u32 (λ time. Done (timed last said time)) u32_fine (λ time. tt)))
 
 next_fine : (last : ℕ) → IsFine (next_block last)
 unfolding next_block
-next_fine last = then_fine u32 (bounded_body last) u32_fine (λ len. if_fine (nat_lt LONGEST_READ len) (Done (Err BlockTooLong)) (body last len) tt (body_fine last len))
+next_fine last = fine_bind u32 (bounded_body last) u32_fine (λ len. fine_cond (nat_lt LONGEST_READ len) (Done (Err BlockTooLong)) (body last len) tt (body_fine last len))
 
 first_fine : IsFine first_block
 unfolding first_block
-first_fine = then_fine (bytes 12) (λ field. if bytes_eq field line then next_block 0 else Done (Err NotARecording)) (bytes_fine 12) (λ field. if_fine (bytes_eq field line) (next_block 0) (Done (Err NotARecording)) (next_fine 0) tt)
-
-step_fine : {A : Type 0} (r : Reading A) (b : ℕ) → IsFine r → IsFine (step r b)
-step_fine (Done x) b a = tt
-step_fine (Faulty fault) b a = a
-step_fine (Want more) b a = a b
-
-after_fine : {A : Type 0} (r : Reading A) (bs : List ℕ) → IsFine r → IsFine (after r bs)
-after_fine r [] a = a
-after_fine r (b ∷ bs) a = after_fine (step r b) bs (step_fine r b a)
+first_fine = fine_bind (bytes 12) (λ field. if bytes_eq field line then next_block 0 else Done (Err NotARecording)) (fine_bytes 12) (λ field. fine_cond (bytes_eq field line) (next_block 0) (Done (Err NotARecording)) (next_fine 0) tt)
 
 form_fine : (o : Option ℕ) → IsFine (form_of o)
 form_fine None = first_fine
 form_fine (Some last) = next_fine last
 
-wants_if : {A : Type 0} (r : Reading A) → IsFine r → whole_of r ≡ None → wants_more r ≡ true
-wants_if (Done x) a e = absurd cc
-wants_if (Faulty fault) a e = absurd a
-wants_if (Want more) a e = refl
-
 pub wants_open : (p : Progress) → whole_of (ahead p) ≡ None → wants_more (ahead p) ≡ true
-wants_open p e = wants_if (ahead p) (after_fine (form_of p.last) p.begun (form_fine p.last)) e
-
-pub wants_next : (last : ℕ) → wants_more (next_block last) ≡ true
-unfolding next_block
-wants_next last = refl
+wants_open p e = fine_wants (ahead p) (fine_after (form_of p.last) p.begun (form_fine p.last)) e
 
 pub wants_first : wants_more first_block ≡ true
 unfolding first_block
@@ -186,7 +151,7 @@ seeking_seen s seeker blocks e k = subst (λ (o : Option Seeker). HasSeenBy o s 
 
 -- ---- the blocks
 
-found_as : (r : Reading Found) (o : Option (Result declared.Block BadRecording)) → option_map shown o ≡ whole_of r → (b : declared.Block) → o ≡ Some (Ok b) → r ≡ Done (Ok (block_of b))
+pub found_as : (r : Reading Found) (o : Option (Result declared.Block BadRecording)) → option_map shown o ≡ whole_of r → (b : declared.Block) → o ≡ Some (Ok b) → r ≡ Done (Ok (block_of b))
 found_as r o e b is = done_from r (Ok (block_of b)) (sym (ap (option_map shown) is) ∙ e)
 
 pub none_as : (r : Reading Found) (o : Option (Result declared.Block BadRecording)) → option_map shown o ≡ whole_of r → o ≡ None → whole_of r ≡ None
@@ -205,7 +170,7 @@ block_seen old new fed b o h e is goes place seen =
         place = place ∙ (ap (λ (n : ℕ). n + (length b.said.now + padding_len (length b.said.now) + 8)) h.place ∙ sym (place_behind h.blocks (block_of b)));
         seen = seen;
       };
-      wants = ap wants_more next ∙ wants_next b.time;
+      wants = ap wants_more next ∙ next_wants b.time;
     }
 
 pub none_seen : (r : Rebuilder) (fed : List ℕ) (o : Option (Result declared.Block BadRecording)) → HasFed r fed → option_map shown o ≡ whole_of (ahead r.reader) → o ≡ None → HasRebuilt r fed

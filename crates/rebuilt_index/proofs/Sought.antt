@@ -99,6 +99,7 @@ tried_on w h hello stream blocks block said t e k =
       is = k.is;
       before = k.before;
       said = k.said;
+      between = k.between;
       fed = k.fed;
       left = said_next (k.block ∷ k.later) block said e ∙ ap (λ (xs : List ℕ). xs ++ said) (k.left ∙ append-nil k.fed);
       behind = k.behind;
@@ -131,8 +132,8 @@ goes_on main trial moments last blocks block said e s =
     }
 
 pub tries : (main other : Follower) (trial : Option Trial) (moments : List KeyMoment) (last m : KeyMoment) (blocks : List Block) (block : Block) (said : List ℕ) (w h : ℕ) → block.said ≡ said → m ≡ moment_before blocks block
-    → w ≡ main.decoder.width → h ≡ main.decoder.height → Follows w h other [] → SeeksBy [] main trial moments last blocks → SeeksBy said main (Some (record { moment = m; follower = other })) moments last (blocks ++ block ∷ [])
-tries main other trial moments last m blocks block said w h e is wide high follows s =
+    → w ≡ main.decoder.width → h ≡ main.decoder.height → main.is_between ≡ true → Follows w h other [] → SeeksBy [] main trial moments last blocks → SeeksBy said main (Some (record { moment = m; follower = other })) moments last (blocks ++ block ∷ [])
+tries main other trial moments last m blocks block said w h e is wide high between follows s =
     record {
       hello = s.hello;
       joined = s.joined;
@@ -147,6 +148,7 @@ tries main other trial moments last m blocks block said w h e is wide high follo
         is = is;
         before = s.stream;
         said = s.opened.said ∙ ap (λ (xs : List ℕ). s.hello ++ xs) (append-nil s.stream);
+        between = s.main.between between;
         fed = [];
         left = said_one block ∙ e;
         behind = sym (append-nil s.stream);
@@ -194,6 +196,7 @@ follows_both main next moments last blocks said more trial t other some also s =
         is = k.is;
         before = k.before;
         said = k.said;
+        between = k.between;
         fed = k.fed ++ said;
         left = k.left ∙ sym (append-nil (k.fed ++ said));
         behind = ap (λ (xs : List ℕ). xs ++ said) k.behind ∙ append_assoc k.before k.fed said;

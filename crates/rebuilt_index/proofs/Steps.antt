@@ -8,23 +8,17 @@ use Rattle.byte_reading.specs.Reading.{Reading, Done, Faulty, Want, after, taken
 use Rattle.byte_reading.proofs.ReadingLaws.{messages-open, messages-taken, renewed_from, rest-append, rest-further, rest-taken, taken-open, wants_from}
 use Rattle.raster.specs.Screen.{Canvas, LooksLike, opening}
 use Rattle.raster.specs.Update.{Update, screen}
-use Rattle.rfb_wire.specs.ServerMessage.{ServerMessage, FramebufferUpdate, SetColorMapEntries, Bell, ServerCutText, LostText}
+use Rattle.rfb_wire.specs.ServerMessage.{ServerMessage}
 use Rattle.painter.specs.Painter.{Painting, worked}
 use Rattle.painter.proofs.SameLaws.{after_each}
 use Rattle.host_decoder.specs.Decoder.{Decodes, Decoding, Holds, host_message, start}
-use Rattle.host_decoder.specs.Events.{BringsWhole, brought_by, changes, event_of, screen_behind}
+use Rattle.host_decoder.specs.Events.{BringsWhole, changes, screen_behind}
 use Rattle.host_decoder.specs.Updates.{update_of, updates}
 use Rattle.host_decoder.specs.declared.event.HostEvent.{HostEvent}
 use Rattle.host_decoder.specs.declared.state.HostState.{HostState}
+use Rattle.host_decoder.proofs.Brought.{brings_listed}
 use Rattle.host_decoder.proofs.ShortUpdates.{updates-append}
 use Rattle.rebuilt_index.specs.Following.{FollowsBy}
-
-brings : (w h : ℕ) (m : ServerMessage) → brought_by (event_of w h m) ≡ filter_map update_of (m ∷ [])
-brings w h (FramebufferUpdate paints) = refl
-brings w h SetColorMapEntries = refl
-brings w h Bell = refl
-brings w h (ServerCutText text) = refl
-brings w h (LostText len) = refl
 
 -- The message of an event, or that none is whole.
 message_in : (w h : ℕ) (c : Canvas) (event : HostEvent) (r : Reading ServerMessage) → BringsWhole w h c (Some event) (whole_of r) → (m : ServerMessage) × (r ≡ Done m)
@@ -49,7 +43,7 @@ whole_step w h stream piece new painter m wide high none wants done decodes =
     let ends : rest form (stream ++ used) ≡ form = rest-append form form stream used ∙ rest-taken form r piece m wants done in
     let one : messages_from form r used ≡ m ∷ [] = messages-taken form r piece m wants done in
     let more : updates w h (stream ++ used) ≡ updates w h stream ++ changes w h m =
-    updates-append form stream used ∙ (ap (λ (ms : List ServerMessage). updates w h stream ++ filter_map update_of ms) one ∙ ap (λ (us : List Update). updates w h stream ++ us) (sym (brings w h m))) in
+    updates-append form stream used ∙ (ap (λ (ms : List ServerMessage). updates w h stream ++ filter_map update_of ms) one ∙ ap (λ (us : List Update). updates w h stream ++ us) (sym (brings_listed w h m))) in
     let behind : screen_behind w h (screen (updates w h stream)) (whole_of (after r piece)) ≡ screen (updates w h (stream ++ used)) =
     ap (λ (q : Reading ServerMessage). screen_behind w h (screen (updates w h stream)) (whole_of q)) done
     ∙ (sym (after_each opening (updates w h stream) (changes w h m)) ∙ ap screen (sym more)) in

@@ -1,3 +1,4 @@
 pub mod Anew
+pub mod Failing
 pub mod Following
 pub mod Seeking

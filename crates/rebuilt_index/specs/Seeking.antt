@@ -1,8 +1,9 @@
 -- How key moments are sought, block after block.
 use Rattle.std.specs.Prelude.{◌≡◌, ℕ, true, List, [], ◌∷◌, ◌++◌, length, Option, Some, None}
-use Rattle.byte_reading.specs.Reading.{Spells, after, taken, wants_more}
+use Rattle.byte_reading.specs.Reading.{Spells, after, rest as rest_of, taken, wants_more}
 use Rattle.rfb_wire.specs.Handshake.{Joined, host_hello}
 use Rattle.rfb_wire.specs.Joining.{ahead as hello_ahead}
+use Rattle.host_decoder.specs.Decoder.{host_message}
 use Rattle.recording.specs.Recording.{Block, recording_bytes}
 use Rattle.recording.specs.Progress.{HasRead, ahead}
 use Rattle.recording_index.specs.IndexBytes.{start}
@@ -21,8 +22,9 @@ pub record IsOpened (blocks : List Block) (hello : List ℕ) (joined : Joined) (
   pub spelled : Spells (host_hello None) hello joined
   pub said : said_bytes blocks ≡ hello ++ rest
 
--- A second follower is tried, which follows from a block on. The main one has followed `stream`, and the second one all
--- of this that is said from the block on. Of what the blocks say only `rest`, at the end, wasn't followed yet.
+-- A second follower is tried, which follows from a block on that begins between two messages. The main one has followed
+-- `stream`, and the second one all of this that is said from the block on. Of what the blocks say only `rest`, at the
+-- end, wasn't followed yet.
 pub record IsTried (w h : ℕ) (hello stream : List ℕ) (blocks : List Block) (rest : List ℕ) (t : Trial) : Type 0 where
   pub earlier : List Block
   pub block : Block
@@ -31,6 +33,7 @@ pub record IsTried (w h : ℕ) (hello stream : List ℕ) (blocks : List Block) (
   pub is : t.moment ≡ moment_before earlier block
   pub before : List ℕ
   pub said : said_bytes earlier ≡ hello ++ before
+  pub between : rest_of (host_message w h) before ≡ host_message w h
   pub fed : List ℕ
   pub left : said_bytes (block ∷ later) ≡ fed ++ rest
   pub behind : stream ≡ before ++ fed

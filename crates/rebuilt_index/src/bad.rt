@@ -45,6 +45,12 @@ impl From<Fault> for BadRebuild {
 
 /// Lets `?` answer that memory was refused.
 impl From<AllocError> for BadRebuild {
+    ghost use Rattle.std.specs.Prelude.{◌≡◌};
+    ghost use Rattle.recording.specs.declared.bad.BadRecording.TheVariants.{Memory};
+    ghost use Rattle.rebuilt_index.specs.declared.bad.BadRebuild.TheVariants.{Recording};
+
+    ghost from_gives = { λ _ reason. reason ≡ Recording Memory };
+
     fn from(_refused: AllocError) -> BadRebuild {
         BadRebuild::Recording(BadRecording::Memory)
     }
@@ -52,6 +58,12 @@ impl From<AllocError> for BadRebuild {
 
 /// Lets `?` answer that memory was refused. The value that couldn't be stored is dropped.
 impl<T: Drop> From<AllocFailed<T>> for BadRebuild {
+    ghost use Rattle.std.specs.Prelude.{◌≡◌};
+    ghost use Rattle.recording.specs.declared.bad.BadRecording.TheVariants.{Memory};
+    ghost use Rattle.rebuilt_index.specs.declared.bad.BadRebuild.TheVariants.{Recording};
+
+    ghost from_gives = { λ _ reason. reason ≡ Recording Memory };
+
     fn from(_refused: AllocFailed<T>) -> BadRebuild {
         BadRebuild::Recording(BadRecording::Memory)
     }

@@ -1,6 +1,6 @@
 //! A follower of what a host says, from some place on.
 
-ghost use Rattle.std.specs.Prelude.{◌≡◌, true};
+ghost use Rattle.std.specs.Prelude.{◌≡◌, true, false};
 ghost use Rattle.host_decoder.specs.Decoder.{IsFor};
 ghost use Rattle.raster.specs.Size.{IsScreenSize};
 
@@ -23,7 +23,8 @@ pub(crate) struct Follower {
 
 /// Whether a screen may be so large.
 fn is_screen_size(width: u64, height: u64) -> bool
-    ensures { result ≡ true → IsScreenSize width height }
+    ensures yes { result ≡ true → IsScreenSize width height }
+    ensures no { result ≡ false → ¬ IsScreenSize width height }
 {
     1 <= width && width <= 4096 && 1 <= height && height <= 4096
 }
@@ -34,15 +35,18 @@ fn is_paint(event: &Option<HostEvent>) -> bool {
 }
 
 impl Follower {
-    ghost use Rattle.std.specs.Prelude.{ℕ, List, [], ◌++◌, take, IfOk, OnOk};
-    ghost use Rattle.byte_reading.specs.Reading.{rest, taken};
+    ghost use Rattle.std.specs.Prelude.{ℕ, ◌⊎◌, List, [], ◌++◌, take, IfOk, IfErr, OnOk};
+    ghost use Rattle.byte_reading.specs.Reading.{Faulty, rest, taken};
+    ghost use Rattle.fault.specs.declared.kinds.Fault.TheVariants.{BadScreen, Memory};
     ghost use Rattle.host_decoder.specs.Decoder.{host_message};
     ghost use Rattle.rebuilt_index.specs.Following.{Follows, HasFed};
 
     /// One to whom no byte has come. It fails where no screen has this size (`BadScreen`), and where memory is refused
     /// (`Memory`).
     pub(crate) fn new(alloc: Global, width: u64, height: u64) -> Result<Follower, Fault>
-        ensures { IfOk result (λ follower. Follows width height follower []) }
+        ensures ok { IfOk result (λ follower. Follows width height follower []) }
+        ensures err { IfErr result (λ fault.
+            (fault ≡ Memory) ⊎ ((fault ≡ BadScreen) × ¬ IsScreenSize width height)) }
     {
         if !is_screen_size(width, height) {
             return Err(Fault::BadScreen);
@@ -70,8 +74,11 @@ impl Follower {
 
     /// Follows what comes next. It fails at a fault of the bytes, and where memory is refused.
     pub(crate) fn feed(&mut self, piece: &[u8]) -> Result<(), Fault>
-        ensures { (w h : ℕ) (stream : List ℕ) → Follows w h self.old stream
+        ensures ok { (w h : ℕ) (stream : List ℕ) → Follows w h self.old stream
             → OnOk result (Follows w h self.new (stream ++ piece.now)) }
+        ensures err { (w h : ℕ) (stream : List ℕ) → Follows w h self.old stream
+            → IfErr result (λ fault. (fault ≡ Memory)
+            ⊎ (rest (host_message w h) (stream ++ piece.now) ≡ Faulty fault)) }
     {
         let mut used = 0;
         for start in 0..piece.len() {

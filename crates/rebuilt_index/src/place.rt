@@ -1,6 +1,7 @@
 //! Where the blocks of a recording begin.
 
-ghost use Rattle.std.specs.Prelude.{◌≡◌, ◌+◌, length, IfOk};
+ghost use Rattle.std.specs.Prelude.{◌≡◌, ◌+◌, ◌<◌, ◌^◌, length, IfOk, IfErr};
+ghost use Rattle.fault.specs.declared.kinds.Fault.TheVariants.{NumbersOut};
 ghost use Rattle.recording.specs.Recording.{padding_len};
 
 use fault::{Fault, LIMIT};
@@ -10,7 +11,9 @@ use recording::Block;
 const FRAME_LEN: u64 = 8;
 
 /// Fails where a count has no room for so many bytes (`NumbersOut`).
-pub(crate) fn check_count(count: usize) -> Result<(), Fault> {
+pub(crate) fn check_count(count: usize) -> Result<(), Fault>
+    ensures { IfErr result (λ fault. (fault ≡ NumbersOut) × (2 ^ 62 < count)) }
+{
     if count as u64 > LIMIT {
         return Err(Fault::NumbersOut);
     }
@@ -20,8 +23,11 @@ pub(crate) fn check_count(count: usize) -> Result<(), Fault> {
 /// The place behind a block that begins at this place, in bytes from the beginning of the recording. It fails where a
 /// count has no room for it (`NumbersOut`).
 pub(crate) fn behind(place: u64, block: Block<'_>) -> Result<u64, Fault>
-    ensures { IfOk result (λ next. next ≡ place + (length block.entry.said.now
+    ensures ok { IfOk result (λ next. next ≡ place + (length block.entry.said.now
         + padding_len (length block.entry.said.now) + 8)) }
+    ensures err { IfErr result (λ fault. (fault ≡ NumbersOut)
+        × (2 ^ 62 < place + (length block.entry.said.now
+        + padding_len (length block.entry.said.now) + 8))) }
 {
     let len = block.said.len() as u64;
     if place > LIMIT || len > LIMIT {

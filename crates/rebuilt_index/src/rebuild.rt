@@ -1,10 +1,11 @@
 //! From the file of a recording to its key moments.
 
-ghost use Rattle.std.specs.Prelude.{◌≡◌, ◌<◌, ◌≤◌, ◌∷◌, ◌++◌, ℕ, List, [], None, length, take, IfOk, OnOk};
+ghost use Rattle.std.specs.Prelude.{◌≡◌, ◌<◌, ◌≤◌, ◌^◌, ◌∷◌, ◌++◌, ℕ, List, [], None, length, take, IfOk, IfErr, OnOk};
 ghost use Rattle.recording.specs.BlockReading.{blocks_in};
 ghost use Rattle.recording.specs.Recording.{Block};
 ghost use Rattle.recording_index.specs.KeyMoments.{moment_before};
 ghost use Rattle.rebuilt_index.specs.Anew.{AreKeyMoments};
+ghost use Rattle.rebuilt_index.specs.Failing.{HasNoIndex, StopsSeeking};
 ghost use Rattle.rebuilt_index.specs.Seeking.{HasRebuilt, HasSeen};
 
 use crate::bad::BadRebuild;
@@ -45,9 +46,12 @@ impl Session {
     /// Hears a block while the handshake goes on.
     fn hear(&mut self, said: &[u8]) -> Result<(), BadRebuild>
         requires { self.old.seeker ≡ None }
-        ensures { (blocks : List Block) (block : Block) → HasSeen self.old blocks
+        ensures ok { (blocks : List Block) (block : Block) → HasSeen self.old blocks
             → block.said ≡ said.now
             → OnOk result (HasSeen self.new (blocks ++ block ∷ [])) }
+        ensures err { (blocks : List Block) (block : Block) → HasSeen self.old blocks
+            → block.said ≡ said.now
+            → IfErr result (λ bad. StopsSeeking bad (blocks ++ block ∷ [])) }
     {
         let used = self.hello.feed(said)?;
         let Some(joined) = self.hello.done() else {
@@ -62,9 +66,12 @@ impl Session {
 
     /// Sees the next block of the recording.
     fn see(&mut self, moment: KeyMoment, said: &[u8]) -> Result<(), BadRebuild>
-        ensures { (blocks : List Block) (block : Block) → HasSeen self.old blocks
+        ensures ok { (blocks : List Block) (block : Block) → HasSeen self.old blocks
             → moment ≡ moment_before blocks block → block.said ≡ said.now
             → OnOk result (HasSeen self.new (blocks ++ block ∷ [])) }
+        ensures err { (blocks : List Block) (block : Block) → HasSeen self.old blocks
+            → moment ≡ moment_before blocks block → block.said ≡ said.now
+            → IfErr result (λ bad. StopsSeeking bad (blocks ++ block ∷ [])) }
     {
         let Some(mut seeker) = self.seeker.take() else {
             return self.hear(said);
@@ -117,6 +124,8 @@ impl Rebuilder {
         ensures within { IfOk result (λ used. used ≤ length piece.now) }
         ensures rebuilt { (fed : List ℕ) → HasRebuilt self.old fed → 0 < length piece.now
             → IfOk result (λ used. (0 < used) × HasRebuilt self.new (fed ++ take used piece.now)) }
+        ensures err { (fed : List ℕ) → HasRebuilt self.old fed
+            → IfErr result (λ bad. HasNoIndex ⊥ bad (fed ++ piece.now)) }
     {
         let used = self.reader.feed(piece)?;
         let Some(found) = self.reader.found() else {
@@ -135,8 +144,11 @@ impl Rebuilder {
 
     /// Reads on in a piece of the file, to its end.
     fn feed(&mut self, piece: &[u8]) -> Result<(), BadRebuild>
-        ensures { (fed : List ℕ) → HasRebuilt self.old fed
+        requires { length piece.now ≤ 2 ^ 62 }
+        ensures ok { (fed : List ℕ) → HasRebuilt self.old fed
             → OnOk result (HasRebuilt self.new (fed ++ piece.now)) }
+        ensures err { (fed : List ℕ) → HasRebuilt self.old fed
+            → IfErr result (λ bad. HasNoIndex ⊥ bad (fed ++ piece.now)) }
     {
         check_count(piece.len())?;
         let mut used = 0;
@@ -168,6 +180,7 @@ pub fn rebuild_index<F: Recorded, R: Wait>(
     ensures ok { IfOk result (λ moments.
         AreKeyMoments moments.items (blocks_in (F.so_far file.new))) }
     ensures all { OnOk result (F.is_all 0 (F.so_far file.new)) }
+    ensures err { IfErr result (λ bad. HasNoIndex F.has_failed bad (F.so_far file.new)) }
 {
     let mut piece = vec![in alloc; 0u8; PIECE_LEN]?;
     let mut rebuilder = Rebuilder::new(alloc);

@@ -1,11 +1,15 @@
 //! Seeks the key moments of a session, block after block.
 
-ghost use Rattle.std.specs.Prelude.{◌≡◌, ℕ, List, [], ◌∷◌, ◌++◌, true, IfOk, IfSome, OnOk};
+ghost use Rattle.std.specs.Prelude.{◌≡◌, ℕ, List, [], ◌∷◌, ◌++◌, true, IfOk, IfErr, IfSome, OnOk};
 ghost use Rattle.recording.specs.Recording.{Block};
 ghost use Rattle.recording_index.specs.KeyMoments.{moment_before};
 ghost use Rattle.rebuilt_index.specs.Anew.{AreKeyMoments, IsKey};
+ghost use Rattle.rebuilt_index.specs.Failing.{StopsSeeking, StopsSession};
 ghost use Rattle.rebuilt_index.specs.Following.{Shows};
 ghost use Rattle.rebuilt_index.specs.Seeking.{IsOpened, Seeks};
+ghost use Rattle.rebuilt_index.specs.declared.bad.BadRebuild.TheVariants.{Recording};
+ghost use Rattle.recording.specs.declared.bad.BadRecording.TheVariants as recording;
+ghost use Rattle.fault.specs.declared.kinds.Fault.TheVariants.{Memory};
 
 use crate::bad::BadRebuild;
 use crate::follower::Follower;
@@ -79,9 +83,12 @@ fn may_be_whole(width: u64, said: &[u8]) -> bool {
 impl Seeker {
     /// One who has seen nothing of a session but its handshake. It fails where memory is refused (`Memory`).
     pub(crate) fn new(alloc: Global, joined: &Joined) -> Result<Seeker, Fault>
-        ensures { (blocks : List Block) (hello rest : List ℕ)
+        ensures ok { (blocks : List Block) (hello rest : List ℕ)
             → IsOpened blocks hello joined.now rest
             → IfOk result (λ seeker. Seeks rest seeker blocks) }
+        ensures err { (blocks : List Block) (hello rest : List ℕ)
+            → IsOpened blocks hello joined.now rest
+            → IfErr result (λ fault. fault ≡ Memory) }
     {
         let main = Follower::new(alloc, joined.w, joined.h)?;
         Ok(Seeker {
@@ -98,15 +105,23 @@ impl Seeker {
         self.last.place == 0 || time.saturating_sub(self.last.time) >= LEAST_APART
     }
 
+    /// Whether the block that comes next, at this time, is to be looked at: it begins between two messages.
+    fn may_begin(&self, time: u32) -> bool
+        ensures { result ≡ true → self.now.main.is_between ≡ true }
+    {
+        self.trial.is_none() && self.main.is_between && self.is_due(time)
+    }
+
     /// Begins to look at the block that comes next, where it may be a key moment.
     fn begin(&mut self, moment: KeyMoment, said: &[u8]) -> Result<(), Fault>
-        ensures { (blocks : List Block) (block : Block) → Seeks [] self.old blocks
+        ensures ok { (blocks : List Block) (block : Block) → Seeks [] self.old blocks
             → moment ≡ moment_before blocks block → block.said ≡ said.now
             → OnOk result (Seeks said.now self.new (blocks ++ block ∷ [])) }
+        ensures err { (blocks : List Block) → Seeks [] self.old blocks
+            → IfErr result (λ fault. fault ≡ Memory) }
     {
         let (width, height) = self.main.decoder.size();
-        let may_begin = self.trial.is_none() && self.main.is_between && self.is_due(moment.time);
-        if !may_begin || !may_be_whole(width, said) {
+        if !self.may_begin(moment.time) || !may_be_whole(width, said) {
             return Ok(());
         }
         let follower = Follower::new(self.alloc, width, height)?;
@@ -116,8 +131,10 @@ impl Seeker {
 
     /// Follows what is said in the block.
     pub(crate) fn follow(&mut self, said: &[u8]) -> Result<(), Fault>
-        ensures { (blocks : List Block) → Seeks said.now self.old blocks
+        ensures ok { (blocks : List Block) → Seeks said.now self.old blocks
             → OnOk result (Seeks [] self.new blocks) }
+        ensures err { (blocks : List Block) → Seeks said.now self.old blocks
+            → IfErr result (λ fault. StopsSession fault blocks) }
     {
         self.main.feed(said)?;
         let Some(mut trial) = self.trial.take() else {
@@ -141,8 +158,9 @@ impl Seeker {
 
     /// Notes a key moment, unless it is before the last one.
     fn note(&mut self, moment: KeyMoment) -> Result<(), BadRebuild>
-        ensures { (blocks : List Block) → Seeks [] self.old blocks → IsKey blocks moment
+        ensures ok { (blocks : List Block) → Seeks [] self.old blocks → IsKey blocks moment
             → OnOk result (Seeks [] self.new blocks) }
+        ensures err { IfErr result (λ bad. bad ≡ Recording recording.Memory) }
     {
         if moment.time < self.last.time || moment.place < self.last.place {
             return Ok(());
@@ -155,8 +173,9 @@ impl Seeker {
     /// Decides on the block that is looked at. It is a key moment where both followers stand between two messages and
     /// show the same. It is given up where an update has come and they don't.
     fn judge(&mut self) -> Result<(), BadRebuild>
-        ensures { (blocks : List Block) → Seeks [] self.old blocks
+        ensures ok { (blocks : List Block) → Seeks [] self.old blocks
             → OnOk result (Seeks [] self.new blocks) }
+        ensures err { IfErr result (λ bad. bad ≡ Recording recording.Memory) }
     {
         let Some(trial) = self.trial.take() else {
             return Ok(());
@@ -170,9 +189,12 @@ impl Seeker {
 
     /// Sees the next block of the recording.
     pub(crate) fn see(&mut self, moment: KeyMoment, said: &[u8]) -> Result<(), BadRebuild>
-        ensures { (blocks : List Block) (block : Block) → Seeks [] self.old blocks
+        ensures ok { (blocks : List Block) (block : Block) → Seeks [] self.old blocks
             → moment ≡ moment_before blocks block → block.said ≡ said.now
             → OnOk result (Seeks [] self.new (blocks ++ block ∷ [])) }
+        ensures err { (blocks : List Block) (block : Block) → Seeks [] self.old blocks
+            → moment ≡ moment_before blocks block → block.said ≡ said.now
+            → IfErr result (λ bad. StopsSeeking bad (blocks ++ block ∷ [])) }
     {
         self.begin(moment, said)?;
         self.follow(said)?;

@@ -1,8 +1,10 @@
 -- Each turn follows to the end of a message, or of the piece.
 use Rattle.std.proofs.Common.{◌≡◌, ◌+◌, ◌≤◌, ◌++◌, ℕ, List, length, take, drop, sym, ap, subst, arith, length-drop}
+use Rattle.std.proofs.lemmas.Result.{err_from_is_err_and}
 use Rattle.rebuilt_index.specs.Following.{Follows}
 use Rattle.rebuilt_index.specs.declared.follower.Follower.{Follower}
 use Rattle.rebuilt_index.proofs.Feeding.{goes_further}
+use Rattle.rebuilt_index.proofs.Stopping.{stops_piece}
 use Rattle.rebuilt_index.proofs.follower.Follower.feed.Goals.{then-start-used+in_ok-used, else-start-used}
 use Rattle.rebuilt_index.proofs.follower.Follower.feed.Goals as goal
 
@@ -37,3 +39,12 @@ loop-start-preserved c =
                 turned (begin + 1) c.loop-start.used c.if-start-used.used c.loop-start.self c.if-start-used.self piece b.self-is b.used-is w h stream (more, before.1);
           }
     ]
+
+pub returns-in_err-used-clause-err : goal.returns-in_err-used-clause-err
+returns-in_err-used-clause-err c =
+    let p = err_from_is_err_and c.from_residual.result c.from_residual.ensures.1 in
+    rw (p.1, p.2) (λ w h stream k.
+    let before = c.loop-start.invariant.follows w h stream k in
+    let here : c.loop-start.used ≡ c.loop-start.start = omega (arith, before.0, c.if-start-used.true) in
+    stops_piece w h c.loop-start.self c.feed.new.self c.feed.new.painter stream c.args.piece.now c.split_at.result.1.now c.loop-start.start c.loop-start.used c.in_err-used.field-0.0 c.split_at.ensures.back here before.1
+    c.in_err-used.ensures.feeds)

@@ -1,8 +1,11 @@
 -- Each turn reads to the end of a block, or of the piece.
 use Rattle.std.proofs.Common.{◌≡◌, ◌+◌, ◌≤◌, ◌++◌, ℕ, List, length, take, drop, sym, ap, subst, arith, length-drop}
+use Rattle.std.proofs.lemmas.Result.{err_from_is_err_and}
+use Rattle.rebuilt_index.specs.Failing.{HasNoIndex}
 use Rattle.rebuilt_index.specs.Seeking.{HasRebuilt}
 use Rattle.rebuilt_index.specs.declared.rebuild.Rebuilder.{Rebuilder}
 use Rattle.rebuilt_index.proofs.Pieces.{reads_further}
+use Rattle.rebuilt_index.proofs.Stopping.{rejoined}
 use Rattle.rebuilt_index.proofs.rebuild.Rebuilder.feed.Goals.{then-start-used+in_ok-used, else-start-used}
 use Rattle.rebuilt_index.proofs.rebuild.Rebuilder.feed.Goals as goal
 
@@ -36,3 +39,15 @@ loop-start-preserved c =
                 turned (begin + 1) c.loop-start.used c.if-start-used.used c.loop-start.self c.if-start-used.self piece b.self-is b.used-is fed (more, before.1);
           }
     ]
+
+pub returns-in_err-used-clause-err : goal.returns-in_err-used-clause-err
+returns-in_err-used-clause-err c =
+    let exit = c.from_residual-in_err-used in
+    let p = err_from_is_err_and exit.result exit.ensures.1 in
+    let piece : List ℕ = c.args.piece.now in
+    let begin : ℕ = c.loop-start.start in
+    let used : ℕ = c.loop-start.used in
+    rw (p.1, p.2) (λ fed k.
+    let before = c.loop-start.invariant.rebuilt fed k in
+    let here : used ≡ begin = omega (arith, before.0, c.if-start-used.true) in
+    subst (λ (xs : List ℕ). HasNoIndex ⊥ c.in_err-used.field-0.0 xs) (rejoined fed piece c.split_at.result.1.now begin used c.split_at.ensures.back here) (c.in_err-used.ensures.err (fed ++ take used piece) before.1))

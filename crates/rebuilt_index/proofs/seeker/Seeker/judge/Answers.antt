@@ -5,10 +5,10 @@ use Rattle.rebuilt_index.specs.declared.seeker.Trial.{Trial}
 use Rattle.rebuilt_index.proofs.Sought.{is_key, without}
 use Rattle.rebuilt_index.proofs.seeker.Seeker.judge.Goals as goal
 
-pub returns-then-is_key : goal.returns-then-is_key
-returns-then-is_key c = λ blocks seeks.
+pub returns-then-is_key-clause-ok : goal.returns-then-is_key-clause-ok
+returns-then-is_key-clause-ok c = λ blocks seeks.
     let s = c.args.self.now in
     let t : Trial = c.in-Some.trial in
     let is : s.trial ≡ Some t = sym c.take.ensures.value ∙ c.in-Some.is in
     let key = is_key s.main s.trial t s.moments.items s.last blocks is seeks (c.is_key.ensures.main c.if-is_key.true) (c.is_key.ensures.trial c.if-is_key.true) (c.is_key.ensures.same c.if-is_key.true) t.follower.pair.width t.follower.pair.height in
-    c.note.ensures blocks (subst (λ (o : Option Trial). SeeksBy [] s.main o s.moments.items s.last blocks) (sym c.take.ensures.after) (without s.main s.trial s.moments.items s.last blocks seeks)) key
+    c.note.ensures.ok blocks (subst (λ (o : Option Trial). SeeksBy [] s.main o s.moments.items s.last blocks) (sym c.take.ensures.after) (without s.main s.trial s.moments.items s.last blocks seeks)) key

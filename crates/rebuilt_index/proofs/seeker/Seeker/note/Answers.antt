@@ -5,8 +5,8 @@ use Rattle.rebuilt_index.specs.Seeking.{SeeksBy}
 use Rattle.rebuilt_index.proofs.Sought.{notes}
 use Rattle.rebuilt_index.proofs.seeker.Seeker.note.Goals as goal
 
-pub returns : goal.returns
-returns c = λ blocks seeks key.
+pub returns-clause-ok : goal.returns-clause-ok
+returns-clause-ok c = λ blocks seeks key.
     let s = c.args.self.now in
     let m : KeyMoment = c.args.moment in
     let time : s.last.time ≤ m.time = omega arith in
