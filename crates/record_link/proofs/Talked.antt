@@ -1,6 +1,6 @@
 -- What the recorder says is a viewer's side of the handshake, and then its requests.
 use Rattle.std.proofs.Common.{◌≡◌, ℕ, ◌+◌, ◌<◌, ◌≤◌, Bool, true, false, if◌then◌else◌, List, [], ◌∷◌, ◌++◌, length, take, drop, Option, None, Some, refl, sym, ap, subst, ◌∙◌, arith, append_assoc, append-nil, length-append, length-drop, length-take}
-use Rattle.std.proofs.lemmas.List.{take-append-drop, take-append-le, take-take, drop-take, drop_at}
+use Rattle.std.proofs.lemmas.List.{take-append-drop, take-append-le, drop_at}
 use Rattle.std.proofs.lemmas.Grind.{flat_map-append}
 use Rattle.byte_reading.specs.Reading.{Reading, Done, after, taken, whole_of, fault_of}
 use Rattle.byte_reading.proofs.ReadingLaws.{done_from, taken-append, taken-taken, taken-le, taken-nil}
@@ -9,7 +9,7 @@ use Rattle.rfb_wire.specs.Joining.{ahead, to_send, HasHeard, IsSameTalk}
 use Rattle.rfb_wire.specs.Writing.{request_bytes}
 use Rattle.rfb_wire.specs.declared.host_talk.HostTalk.{HostTalk}
 use Rattle.rfb_wire.proofs.Handshakes.{said_begins}
-use Rattle.link.proofs.Handshaking.{sends_without_fault}
+use Rattle.link.proofs.Handshaking.{sends_without_fault, take_further}
 use Rattle.record_link.proofs.Grown.{no_bytes}
 use Rattle.record_link.specs.Talking.{Talk, Stands, IsSaying, IsFree, choices, told_to, requests_bytes, whole_screen}
 
@@ -77,11 +77,6 @@ hears_saying old new bytes heard kinds hears same asked taken_same pending h =
     }
 
 -- ---- the session takes what is said
-
-take_further : (n m : ℕ) (xs : List ℕ) → take n xs ++ take m (drop n xs) ≡ take (n + m) xs
-take_further n m xs =
-    ap (λ t. t ++ take m (drop n xs)) (sym (take-take n (n + m) xs (omega arith)))
-    ∙ (ap (λ t. take n (take (n + m) xs) ++ t) (sym (drop-take n m xs)) ∙ take-append-drop n (take (n + m) xs))
 
 hello_stands : (b : Bool) (old new : Talk) (out heard : List ℕ) (kinds : List Bool) (count : ℕ) → out ≡ drop old.hello.sent (said_to_host None heard) → 0 < length out → new.hello.sent ≡ old.hello.sent + count
     → new.taken ≡ old.taken ++ take count out → new.pending ≡ old.pending → Stands b old heard kinds → Stands b new heard kinds
