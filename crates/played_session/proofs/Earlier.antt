@@ -1,6 +1,6 @@
 -- A viewer's record only grows: what is so of all of its entries was so before. And no size is told to a viewer that
 -- takes none.
-use Rattle.std.proofs.Common.{◌≡◌, ℕ, Bool, false, List, [], ◌∷◌, ◌++◌, length, take, Option, Some, None, refl, sym, ap, subst}
+use Rattle.std.proofs.Common.{◌≡◌, ℕ, Bool, false, List, [], ◌∷◌, ◌++◌, length, take, Option, Some, None, refl, sym, ap, subst, ◌∙◌, append_assoc}
 use Rattle.byte_reading.specs.Reading.{Reading, Done, Faulty, Want, step}
 use Rattle.raster.specs.declared.rect.Rect.{Rect}
 use Rattle.raster.specs.declared.size.Size.{Size}
@@ -9,9 +9,9 @@ use Rattle.rfb_wire.specs.ClientMessage.{ClientMessage, SetPixelFormat, SetEncod
 use Rattle.roles.specs.Held.{input_for}
 use Rattle.viewer_session.specs.Acts.{Act, Cutting, Bytes, Turn, Written, Passed, after_act, after_turn, viewer_after}
 use Rattle.viewer_session.specs.Record.{Entry, Took, Saw, MadeCut, Began, ToldSize, choice_of}
-use Rattle.viewer_session.specs.Session.{with_marks}
-use Rattle.viewer_session.specs.Turn.{host_size, size_at, size_for, size_if_new, told_at, update_at, with_chosen}
-use Rattle.viewer_session.specs.Viewer.{Setup, Viewer, after_bytes, after_reading, marked}
+use Rattle.viewer_session.specs.Session.{after_look, with_marks}
+use Rattle.viewer_session.specs.Turn.{Chosen, host_size, size_at, size_for, size_if_new, told_at, update_at, with_chosen}
+use Rattle.viewer_session.specs.Viewer.{Setup, Viewer, after_bytes, after_cut_as, after_reading, marked}
 use Rattle.viewer_session.proofs.Bytes.{keeps_bytes, keeps_input}
 use Rattle.played_session.specs.Pictures.{AreForPictures}
 use Rattle.played_session.specs.Played.{AreForRecording}
@@ -32,7 +32,7 @@ ends_reading es p (Done m) k =
 ends_reading es p (Faulty fault) k = k
 ends_reading es p (Want more) k = k
 
-ends_bytes : (p : Viewer) (bs : List ℕ) → Ends p.entries (after_bytes p bs).entries
+pub ends_bytes : (p : Viewer) (bs : List ℕ) → Ends p.entries (after_bytes p bs).entries
 ends_bytes p bs =
     keeps_bytes (λ q. Ends p.entries q.entries) (λ q unread k. k) (λ q hello wants k. k) (λ q b none k. ends_reading p.entries q (step q.reading b) k) p bs ([], refl)
 
@@ -41,12 +41,14 @@ ends_told n (Some size) o es now k = ends_more es now _ k
 ends_told n None None es now k = k
 ends_told n None (Some found) es now k = ends_more es now _ k
 
+pub ends_cut : (s : Setup) (us : List Update) (p : Viewer) (chosen : Option Chosen) → Ends p.entries (after_cut_as s us chosen p).entries
+ends_cut s us p chosen = ends_told (length us) (size_at s.w s.h s.host p.entries us) (with_chosen chosen (update_at s.runs s.w s.h p.entries us)) p.entries (MadeCut (length us) ∷ p.entries) (MadeCut (length us) ∷ [], refl)
+
 ends_turn : (s : Setup) (us : List Update) (p : Viewer) (looked : ℕ) (cut : Option Cutting) → Ends p.entries (after_turn s us looked cut p).entries
 ends_turn s us p looked None = (Saw looked ∷ [], refl)
 ends_turn s us p looked (Some cut) =
-    let first : List Update = take cut.number us in
-    ends_told (length first) (size_at s.w s.h s.host (Saw looked ∷ p.entries) first) (with_chosen cut.chosen (update_at s.runs s.w s.h (Saw looked ∷ p.entries) first)) p.entries (MadeCut (length first) ∷ Saw looked ∷ p.entries)
-    (MadeCut (length first) ∷ Saw looked ∷ [], refl)
+    let behind = ends_cut s (take cut.number us) (after_look looked p) cut.chosen in
+    (behind.0 ++ Saw looked ∷ [], behind.1 ∙ sym (append_assoc behind.0 (Saw looked ∷ []) p.entries))
 
 pub ends_act : (s : Setup) (us : List Update) (p : Viewer) (act : Act) → Ends p.entries (after_act s us act p).entries
 ends_act s us p (Bytes marks bytes) = ends_bytes (with_marks marks p) bytes

@@ -1,18 +1,13 @@
 -- Beginnings of what is said, as far as a piece of it and inside that piece. What a player shows in the middle of a
 -- message is found by it.
-use Rattle.std.proofs.Common.{◌≡◌, ℕ, ◌≤◌, Bool, true, false, cond, List, [], ◌∷◌, ◌++◌, length, take, refl, sym, ap, ◌∙◌, subst, arith, inl, inr, append_assoc, append-nil}
+use Rattle.std.proofs.Common.{◌≡◌, ℕ, ◌≤◌, Bool, true, false, cond, List, [], ◌∷◌, ◌++◌, length, take, refl, sym, ap, ◌∙◌, subst, arith, inl, inr}
 use Rattle.std.specs.Prelude.{◌⊎◌}
 use Rattle.raster.specs.Screen.{Canvas, LooksLike}
 use Rattle.raster.specs.Update.{Update, screen}
 use Rattle.reflect_core.specs.Sequential.{Begins}
+use Rattle.viewer_session.proofs.Parts.{begins_on, begins_same}
 use Rattle.played_session.specs.Pictures.{ShowsAfter}
 use Rattle.played_session.specs.ReadAlike.{shown_by}
-
-pub begins_itself : {A : Type 0} (xs : List A) → Begins xs xs
-begins_itself xs = ([], sym (append-nil xs))
-
-pub begins_on : {A : Type 0} (xs ys zs : List A) → Begins xs ys → Begins ys zs → Begins xs zs
-begins_on xs ys zs k l = (k.0 ++ l.0, l.1 ∙ (ap (λ t. t ++ l.0) k.1 ∙ append_assoc xs k.0 l.0))
 
 -- A beginning of two pieces is one of the first, or all of that and a beginning of the second.
 split : (front xs ys : List ℕ) → Begins front (xs ++ ys) → (Begins front xs) ⊎ ((c : List ℕ) × (front ≡ xs ++ c) × Begins c ys)
@@ -99,7 +94,7 @@ module _ (w h : ℕ) (us : List Update) (xs ys : List ℕ) (top next : ℕ) (thr
   pair_in front c begins fb =
       elim (split front xs c fb) [
         | inl in_first ↦
-            let p = k.pairs front front (begins_itself front) in_first in
+            let p = k.pairs front front (begins_same front) in_first in
             let under = p.under in
             let more = above (through c) in
             record { earlier = p.later; later = cond (through c) next top; order = omega (arith, under, more); under = below (through c); shows_earlier = p.shows_later; shows_later = shows c begins }

@@ -23,9 +23,9 @@ use Rattle.viewer_session.specs.Session.{with_marks}
 use Rattle.viewer_session.specs.Viewer.{Setup, Viewer, after_byte, after_bytes, after_hello, after_reading, is_greeted, marked, new_viewer, out_bytes, viewer_fault}
 use Rattle.viewer_session.proofs.Bytes.{keeps_input}
 use Rattle.viewer_session.proofs.HelloLaws.{said_grows}
+use Rattle.viewer_session.proofs.Parts.{begins_on, begins_same}
 use Rattle.viewer_server.specs.Serving.{AllMayBe, MayBe}
-use Rattle.played_session.proofs.Fronts.{begins_itself, begins_on}
-use Rattle.played_session.proofs.Hello.{Greets, counts, greets_hello, greets_reading, said_by}
+use Rattle.played_session.proofs.Hello.{Greets, counts, greets_hello, greets_reading, out_first, said_by}
 
 -- The hello was read so far. As long as it isn't done, nothing was said behind it, and fewer bytes of it count than it
 -- has.
@@ -108,7 +108,7 @@ greeting_all s us p (act ∷ acts) may k = greeting_act s us (viewer_after s us 
 said_on : (w h : ℕ) (name : List ℕ) (n k : ℕ) → Begins (said_to_viewer w h name n) (said_to_viewer w h name (n + k))
 said_on w h name n zero =
     let same : n ≡ n + 0 = omega arith in
-    subst (λ m. Begins (said_to_viewer w h name n) (said_to_viewer w h name m)) same (begins_itself (said_to_viewer w h name n))
+    subst (λ m. Begins (said_to_viewer w h name n) (said_to_viewer w h name m)) same (begins_same (said_to_viewer w h name n))
 said_on w h name n (suc k) =
     let next : (n + k) + 1 ≡ n + suc k = omega arith in
     begins_on (said_to_viewer w h name n) (said_to_viewer w h name (n + k)) (said_to_viewer w h name (n + suc k)) (said_on w h name n k)
@@ -139,23 +139,30 @@ all_long w h name =
     let eighteen : length front ≡ 18 = refl in
     omega (arith, parts, init, eighteen, length-append front (server_init w h name))
 
+-- Before the hello is done nothing else is said, and that begins what is said in all of it.
+early_out : (s : Setup) (p : Viewer) → is_greeted p ≡ false → IsGreeting p → out_bytes s p ≡ said_to_viewer s.w s.h s.name p.said
+early_out s p e k =
+    let said : List ℕ = said_to_viewer s.w s.h s.name p.said in
+    ap (λ b. cond b said [] ++ p.said_after) k.greets.greet ∙ (ap (λ t. said ++ t) (k.early e).0 ∙ append-nil said)
+
+early_begins : (s : Setup) (p : Viewer) → is_greeted p ≡ false → IsGreeting p → Begins (said_to_viewer s.w s.h s.name p.said) (said_to_viewer s.w s.h s.name 14)
+early_begins s p e k =
+    let few = (k.early e).1 in
+    let n : ℕ = 14 - p.said in
+    let sum : p.said + n ≡ 14 = omega (arith, few) in
+    subst (λ m. Begins (said_to_viewer s.w s.h s.name p.said) (said_to_viewer s.w s.h s.name m)) sum (said_on s.w s.h s.name p.said n)
+
 -- ---- who has said a handshake
 
 greeted_by : (s : Setup) (p : Viewer) (hello : List ℕ) (joined : Joined) (done : Bool) → is_greeted p ≡ done → IsScreenSize s.w s.h → length s.name ≤ 255 → IsGreeting p → Spells (host_hello None) hello joined → Begins hello (out_bytes s p) → done ≡ true
 greeted_by s p hello joined true e size short k spelled begins = refl
 greeted_by s p hello joined false e size short k spelled begins =
     absurd (
-    let early = k.early e in
-    let few = early.1 in
+    let few = (k.early e).1 in
     let said : List ℕ = said_to_viewer s.w s.h s.name p.said in
-    let out : out_bytes s p ≡ said =
-    ap (λ b. cond b said [] ++ p.said_after) k.greets.greet ∙ (ap (λ t. said ++ t) early.0 ∙ append-nil said) in
     let all : List ℕ = said_to_viewer s.w s.h s.name 14 in
-    let n : ℕ = 14 - p.said in
-    let sum : p.said + n ≡ 14 = omega (arith, few) in
-    let up : Begins said all = subst (λ m. Begins said (said_to_viewer s.w s.h s.name m)) sum (said_on s.w s.h s.name p.said n) in
-    let in_it : Begins hello said = subst (Begins hello) out begins in
-    let in_all : Begins hello all = begins_on hello said all in_it up in
+    let in_it : Begins hello said = subst (Begins hello) (early_out s p e k) begins in
+    let in_all : Begins hello all = begins_on hello said all in_it (early_begins s p e k) in
     let one = prefix_free (host_hello None) hello all in_all.0 [] joined (record { w = s.w; h = s.h; name = s.name }) spelled
     (viewer_is_told None s.w s.h s.name size.wide.0 size.wide.1 size.high.0 size.high.1 short) (sym in_all.1 ∙ sym (append-nil all)) in
     let long : length said ≡ length hello + length in_it.0 = ap length in_it.1 ∙ length-append hello in_it.0 in
@@ -163,9 +170,29 @@ greeted_by s p hello joined false e size short k spelled begins =
     omega (arith, less_said s.w s.h s.name p.said few, all_long s.w s.h s.name, long, same)
     )
 
+greeting_after : (s : Setup) (us : List Update) (role : Role) (acts : List Act) → AllMayBe s us (new_viewer role true) acts → IsGreeting (viewer_after s us (new_viewer role true) acts)
+greeting_after s us role acts may =
+    greeting_all s us (new_viewer role true) acts may (record { greets = record { heard = []; greet = refl; hello = refl; said = λ fine. refl }; early = λ open_. (refl, omega arith) })
+
 pub is_done : (s : Setup) (us : List Update) (role : Role) (acts : List Act) (hello : List ℕ) (joined : Joined) → IsScreenSize s.w s.h → length s.name ≤ 255 → AllMayBe s us (new_viewer role true) acts → Spells (host_hello None) hello joined
     → Begins hello (out_bytes s (viewer_after s us (new_viewer role true) acts)) → is_greeted (viewer_after s us (new_viewer role true) acts) ≡ true
 is_done s us role acts hello joined size short may spelled begins =
     let p : Viewer = viewer_after s us (new_viewer role true) acts in
-    greeted_by s p hello joined (is_greeted p) refl size short
-    (greeting_all s us (new_viewer role true) acts may (record { greets = record { heard = []; greet = refl; hello = refl; said = λ fine. refl }; early = λ open_. (refl, omega arith) })) spelled begins
+    greeted_by s p hello joined (is_greeted p) refl size short (greeting_after s us role acts may) spelled begins
+
+-- ---- how all begins that is said
+
+opens_by : (s : Setup) (p : Viewer) (done : Bool) → is_greeted p ≡ done → IsGreeting p → (done ≡ true → out_bytes s p ≡ said_to_viewer s.w s.h s.name 14 ++ p.said_after)
+    → (later : List ℕ) × (Begins (out_bytes s p) (said_to_viewer s.w s.h s.name 14 ++ later))
+opens_by s p true e k whole = (p.said_after, subst (Begins (out_bytes s p)) (whole refl) (begins_same (out_bytes s p)))
+opens_by s p false e k whole =
+    let said : List ℕ = said_to_viewer s.w s.h s.name p.said in
+    let all : List ℕ = said_to_viewer s.w s.h s.name 14 in
+    ([], subst (λ t. Begins t (all ++ [])) (sym (early_out s p e k)) (begins_on said all (all ++ []) (early_begins s p e k) ([], refl)))
+
+-- All that is said begins as a whole handshake does, or is a beginning of one.
+pub opens : (s : Setup) (us : List Update) (role : Role) (acts : List Act) → AllMayBe s us (new_viewer role true) acts
+    → (later : List ℕ) × (Begins (out_bytes s (viewer_after s us (new_viewer role true) acts)) (said_to_viewer s.w s.h s.name 14 ++ later))
+opens s us role acts may =
+    let p : Viewer = viewer_after s us (new_viewer role true) acts in
+    opens_by s p (is_greeted p) refl (greeting_after s us role acts may) (out_first s us role acts)

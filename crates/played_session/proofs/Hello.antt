@@ -10,11 +10,12 @@ use Rattle.rfb_wire.specs.ClientMessage.{ClientMessage, client_message}
 use Rattle.rfb_wire.specs.Handshake.{said_to_viewer, server_init, version, viewer_hello}
 use Rattle.rfb_wire.proofs.Greetings.{greeting_not_whole}
 use Rattle.rfb_wire.proofs.Handshakes.{viewer_is_told}
+use Rattle.roles.specs.declared.role.Role.{Role}
 use Rattle.roles.specs.Held.{input_for}
 use Rattle.viewer_session.specs.Acts.{Act, Cutting, Bytes, Turn, Written, Passed, after_act, after_turn, viewer_after}
 use Rattle.viewer_session.specs.Record.{Took}
 use Rattle.viewer_session.specs.Session.{with_marks}
-use Rattle.viewer_session.specs.Viewer.{Setup, Viewer, after_byte, after_bytes, after_hello, after_reading, marked, new_viewer, viewer_fault}
+use Rattle.viewer_session.specs.Viewer.{Setup, Viewer, after_byte, after_bytes, after_hello, after_reading, is_greeted, marked, new_viewer, out_bytes, viewer_fault}
 use Rattle.viewer_session.proofs.Bytes.{keeps_input}
 use Rattle.played_session.specs.Played.{HellosAreHeard}
 
@@ -103,14 +104,19 @@ is_long heard e =
       | inr ge ↦ ge
     ]
 
-pub hellos_heard : HellosAreHeard
-hellos_heard s size short us role acts done =
+pub out_first : (s : Setup) (us : List Update) (role : Role) (acts : List Act) → is_greeted (viewer_after s us (new_viewer role true) acts) ≡ true
+    → out_bytes s (viewer_after s us (new_viewer role true) acts) ≡ said_to_viewer s.w s.h s.name 14 ++ (viewer_after s us (new_viewer role true) acts).said_after
+out_first s us role acts done =
     let p : Viewer = viewer_after s us (new_viewer role true) acts in
     let k : Greets p = greets_all s us (new_viewer role true) acts (record { heard = []; greet = refl; hello = refl; said = λ fine. refl }) in
     let long : 14 ≤ length k.heard = is_long k.heard (sym (ap (λ r. is_some (whole_of r)) k.hello) ∙ done) in
     let said : p.said ≡ length k.heard = k.said (no_fault p.hello done) in
+    ap (λ b. cond b (said_to_viewer s.w s.h s.name p.said) [] ++ p.said_after) k.greet ∙ ap (λ t. t ++ p.said_after) (all_said s.w s.h s.name p.said (omega (arith, long, said)))
+
+pub hellos_heard : HellosAreHeard
+hellos_heard s size short us role acts done =
     record {
       hello = said_to_viewer s.w s.h s.name 14;
       spelled = viewer_is_told None s.w s.h s.name size.wide.0 size.wide.1 size.high.0 size.high.1 short;
-      all = ap (λ b. cond b (said_to_viewer s.w s.h s.name p.said) [] ++ p.said_after) k.greet ∙ ap (λ t. t ++ p.said_after) (all_said s.w s.h s.name p.said (omega (arith, long, said)));
+      all = out_first s us role acts done;
     }

@@ -9,7 +9,7 @@ use Rattle.byte_reading.proofs.ReadingLaws.{messages-append}
 use Rattle.raster.specs.declared.rect.Rect.{Rect}
 use Rattle.raster.specs.declared.size.Size.{Size}
 use Rattle.raster.specs.Screen.{Canvas, LooksLike, common, cover, is_empty, whole_screen}
-use Rattle.raster.specs.Update.{Paint, Paints, Cut, NumberedText, Update, bells, last_text, last_text_from, screen}
+use Rattle.raster.specs.Update.{Paints, Cut, NumberedText, Update, bells, last_text, last_text_from, screen}
 use Rattle.raster.specs.Update as update
 use Rattle.raster.proofs.Spellings.{Each}
 use Rattle.rfb_wire.specs.ClientMessage.{SetPixelFormat, SetEncodings, Ask, Key, Pointer, CutText, LostText, longest_text}
@@ -33,6 +33,7 @@ use Rattle.viewer_session.proofs.Good.{IsGood}
 use Rattle.viewer_session.proofs.Stands.{AllAnswered, IsAnswered, follower_format, follows_all}
 use Rattle.viewer_session.proofs.Streams.{stream-bytes, stream_took}
 use Rattle.played_session.specs.Pictures.{AreForPictures, PlayersNeverGoBack, ShowsAfter}
+use Rattle.viewer_session.proofs.Parts.{begins_same}
 use Rattle.played_session.specs.Played.{AreForRecording}
 use Rattle.played_session.specs.ReadAlike.{shown_by}
 use Rattle.played_session.proofs.Beside.{screen_after}
@@ -40,7 +41,7 @@ use Rattle.played_session.proofs.Colours.{each_begins, first_short, pixel_is_col
 use Rattle.played_session.proofs.Earlier.{TellsNone, tells_none}
 use Rattle.played_session.proofs.Entries.{Plays, full_colour, record_plays, shown_more}
 use Rattle.played_session.proofs.Followed.{good_after}
-use Rattle.played_session.proofs.Fronts.{InOrder, begins_itself, nothing_said, piece_more}
+use Rattle.played_session.proofs.Fronts.{InOrder, nothing_said, piece_more}
 
 -- ---- messages in a piece
 
@@ -299,7 +300,7 @@ module _ (w h : ℕ) (ended : List (List ℕ)) (present : List ℕ) (us : List U
       let still : (c : List ℕ) → Begins c news → shown_by w h (said es ++ c) ≡ shown_by w h (said es) = λ c begins. quiet_in w h (said es) news c (plays_of es k pictures).whole quiet begins in
       subst (λ t. InOrder w h us t (last_number es)) (sym (stream-bytes (heard w h us es) news))
       (piece_more w h us (said es) news (last_number es) (last_number es) (λ c. false) (omega arith) before.known
-      (subst (λ (canvas : Canvas). LooksLike w h canvas (screen (take (last_number es) us))) (sym (still news (begins_itself news))) before.at_end)
+      (subst (λ (canvas : Canvas). LooksLike w h canvas (screen (take (last_number es) us))) (sym (still news (begins_same news))) before.at_end)
       (λ c begins e. still c begins) (λ c begins e. absurd cc) (λ c d begins e. e) before)
   in_order (Began area n bytes ∷ es) k pictures none =
       let before : InOrder w h us (said es) (last_number es) = in_order es k.1 pictures none in
