@@ -4,7 +4,7 @@ use crate::pace::PlayerPace;
 use crate::player::Player;
 use fault::LIMIT;
 use link::{Gave, Link, Record, Took};
-use playback::{PlayedLink, Recorded};
+use playback::{BadPlayback, PlayedLink, Recorded};
 use run_traits::HostCount;
 use show::RecordingFile;
 use std::alloc::Global;
@@ -14,7 +14,8 @@ use std::sync::{Arc, Wait};
 use std::time::Clock;
 
 /// The link to a recording that is played as a host until its player leaves it. From then on it says that the host has
-/// ended. At the recording's end it says so once it doesn't rest. Once it is closed it has neither the file nor its memory any more, and fails.
+/// ended. At the recording's end it says so once it doesn't rest. Once it is closed it has neither the file nor its
+/// memory any more, and fails.
 #[derive(Drop)]
 pub struct PlayedHost<R: Wait + Clock + Drop, F: Recorded> {
     rt: R,
@@ -56,7 +57,7 @@ impl<R: Wait + Clock + Drop, F: Recorded> Model for PlayedHost<R, F> {
 }
 
 impl<R: Wait + Clock + Drop, F: Recorded> PlayedHost<R, F> {
-    ghost use Rattle.std.specs.Prelude.{◌≡◌, Some, None};
+    ghost use Rattle.std.specs.Prelude.{◌≡◌, Some, None, option_and_then};
     ghost use Rattle.link.specs.Links.{with_end, with_failure};
     ghost use Rattle.playback.specs.Playing.{state_of};
     ghost use Rattle.run_traits.specs.Unused.{unused};
@@ -97,6 +98,16 @@ impl<R: Wait + Clock + Drop, F: Recorded> PlayedHost<R, F> {
     {
         if let Some(link) = &self.link {
             link.plays();
+        }
+    }
+
+    /// Why the recording can't be played on, if it can't: from then on the link fails. A link that is closed doesn't say.
+    pub fn why(&self) -> Option<BadPlayback>
+        ensures { result ≡ option_and_then (λ played. played.why) self.now.below }
+    {
+        match &self.link {
+            Some(link) => link.why(),
+            None => None,
         }
     }
 

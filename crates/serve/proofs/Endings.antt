@@ -12,10 +12,11 @@ use Rattle.host_turns.specs.declared.ending.Ending.{Ending}
 use Rattle.host_turns.specs.Running.{goes_on, goes_on_after}
 use Rattle.reflector.specs.Course.{IsReflected}
 use Rattle.reflector.specs.declared.ran.Ran.{Ran}
-use Rattle.serve.specs.Runs.{IsEnd, IsEndBy, IsRunBy, IsRunFor, IsServed, IsToldBy, form_for, roles_for}
+use Rattle.serve.specs.Runs.{CountsAs, IsEnd, IsEndBy, IsRunBy, IsRunFor, IsServed, IsToldBy, form_for, roles_for}
 use Rattle.serve.specs.Statuses.{IsStatus, status_for}
 use Rattle.serve.specs.Turns.{MayEnd}
 use Rattle.serve.specs.declared.ended.Ended.{Ended}
+use Rattle.serve.specs.declared.ended.PlayedEnd.{PlayedEnd}
 use Rattle.serve.specs.declared.ended.Reflected.{Reflected}
 use Rattle.serve.specs.declared.ended.Served.{Served}
 use Rattle.serve.specs.declared.order.Cut.{Cut}
@@ -71,16 +72,23 @@ run_by settings (Ok run) host width height password roles form again reflected h
 }
 run_by settings (Err f) host width height password roles form again reflected has_room known has_roles has_form last never is_room same_roles same_form ends = tt
 
+-- An end that counts for another one: the next host would have been taken after that, too.
+goes_on_as : (settings : Settings) (is counted : Ending) → CountsAs settings is.answer counted.answer → counted.has_called ≡ is.has_called → goes_on counted ≡ true → goes_on is ≡ true
+goes_on_as settings is counted (inl same) called on = rw (sym same, sym called) on
+goes_on_as settings is counted (inr (_, ended, _)) called on = rw ended refl
+
 -- A run that ended by itself.
-pub by_itself : (settings : Settings) (last : Ending) (ran : Ran) (run : Reflected) → run ≡ record { last = last; ran = ran } → IsRunBy settings run → IsEndBy settings (record { last = last; ran = Some ran; stopped = None })
-by_itself settings last ran run same by =
-    let is : IsRunBy settings (record { last = last; ran = ran }) = subst (IsRunBy settings) same by in
-    record { end = is.last; run = is.is; ends = is.ends }
+pub by_itself : (settings : Settings) (last counted : Ending) (ran : Ran) (played : Option PlayedEnd) → IsRunBy settings (record { last = last; played = played; ran = ran }) → CountsAs settings last.answer counted.answer → counted.has_called ≡ last.has_called → IsEndBy settings (record { last = counted; ran = Some ran; stopped = None; played = played })
+by_itself settings last counted ran played is counts called = record {
+  end = (subst (λ (e : Ending). CountsAs settings e.answer counted.answer) is.last counts, called ∙ ap (λ (e : Ending). e.has_called) is.last);
+  run = is.is;
+  ends = λ on. is.ends (goes_on_as settings last counted counts called on);
+}
 
 -- What is handed out at an end, or after trouble before any run.
 told : (settings : Settings) (last : Ending) (status : ℕ) (ran : Option Ran) (stopped : Option Cut) → status ≡ status_for last.answer → IsEnd settings last ran stopped → IsToldBy settings status ran stopped
 told settings last status ran (Some cut) is end = (is ∙ ap status_for end.0, end.1)
-told settings last status (Some ran) None is end = is ∙ ap (λ (e : Ending). status_for e.answer) end
+told settings last status (Some ran) None is end = (last.answer, end.0, is)
 told settings last status None None is end = absurd end
 
 pub ended_well : (settings : Settings) (ended : Result Ended Trouble) (served : Served) → IfOk ended (λ e. IsEndBy settings e) → IsServed ended served → served.status ≡ 0 → MayEnd settings

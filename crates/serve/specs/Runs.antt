@@ -1,6 +1,7 @@
 -- What is known of a run that `serve` ran, and how its exit status says how the run ended (own).
 use Rattle.std.specs.Prelude.{◌≡◌, ◌⊎◌, ◌++◌, ℕ, List, [], ◌∷◌, if◌then◌else◌, Option, Some, None, IfSome, Result, Ok, Err, is_some, not, replicate, true}
 use Rattle.fault.specs.declared.kinds.Fault.{Fault}
+use Rattle.fault.specs.declared.kinds.Fault.TheVariants.{LinkEnded}
 use Rattle.roles.specs.declared.role.Role.{Role}
 use Rattle.roles.specs.declared.role.Role.TheVariants.{Full, View}
 use Rattle.settings.specs.ByRole.{places_for, runs_for}
@@ -11,6 +12,7 @@ use Rattle.host_turns.specs.Running.{goes_on}
 use Rattle.viewer_session.specs.declared.form.AnswerForm.{AnswerForm}
 use Rattle.reflector.specs.Course.{Course, IsReflected}
 use Rattle.reflector.specs.declared.ran.Ran.{Ran}
+use Rattle.serve.specs.Hosts.{HasRecording}
 use Rattle.serve.specs.Statuses.{status_for}
 use Rattle.serve.specs.Turns.{MayEnd}
 use Rattle.serve.specs.declared.ended.Ended.{Ended}
@@ -41,11 +43,19 @@ pub record IsRunFor (settings : Settings) (course : Course) : Type 0 where
   pub roles : course.roles ≡ roles_for settings
   pub form : course.form ≡ form_for settings
 
+-- How the answer counts with which a run ended: as it is. Where its last link ended inside a message it may count as
+-- one that ended between two, but only in a run one of whose hosts is a recording, which may be cut off there.
+abbrev pub CountsAs : Settings → (answer counted : Result (Unit {0}) Fault) → Type 0
+CountsAs settings answer counted =
+    (counted ≡ answer) ⊎ ((counted ≡ Ok tt) × (answer ≡ Err LinkEnded) × HasRecording settings)
+
 -- What the exit status says. If an operator has stopped the run, it is 0, and the settings have a socket for one. If
--- none has, it is the one for the answer with which the run ended, and 3 or 4 where none was run.
+-- none has, it is the one for the answer with which the run ended, as that counts, and 3 or 4 where none was run.
 abbrev pub IsToldBy : Settings → ℕ → Option Ran → Option Cut → Type 0
 IsToldBy settings status ran (Some cut) = (status ≡ 0) × (is_some settings.control ≡ true)
-IsToldBy settings status (Some ran) None = status ≡ status_for ran.course.last_end.answer
+IsToldBy settings status (Some ran) None =
+    (counted : Result (Unit {0}) Fault) × CountsAs settings ran.course.last_end.answer counted
+    × (status ≡ status_for counted)
 IsToldBy settings status None None = (status ≡ 3) ⊎ (status ≡ 4)
 
 -- ---- on the way
@@ -57,10 +67,11 @@ pub record IsRunBy (settings : Settings) (run : Reflected) : Type 0 where
   pub ends : goes_on run.last ≡ true → MayEnd settings
 
 -- How a run ended: as an operator has stopped it, which only one with a socket can, or as the last host of a run that
--- was run has ended.
+-- was run has ended, as that counts.
 abbrev pub IsEnd : Settings → Ending → Option Ran → Option Cut → Type 0
 IsEnd settings last ran (Some cut) = (last.answer ≡ Ok tt) × (is_some settings.control ≡ true)
-IsEnd settings last (Some ran) None = last ≡ ran.course.last_end
+IsEnd settings last (Some ran) None = CountsAs settings ran.course.last_end.answer last.answer
+    × (last.has_called ≡ ran.course.last_end.has_called)
 IsEnd settings last None None = ⊥
 
 pub record IsEndBy (settings : Settings) (ended : Ended) : Type 0 where

@@ -312,6 +312,11 @@ impl Display for Advice<'_> {
                 text_of(settings, number),
                 join_advice(fault, settings.host_password.is_some())
             ),
+            Stage::Play(number, bad) => write!(
+                f,
+                "can't play the recording of {}: {bad}",
+                text_of(settings, number)
+            ),
             Stage::Start => write!(
                 f,
                 "can't start{said}; the system may be short of threads or descriptors"

@@ -12,7 +12,7 @@ ghost use Rattle.serve.specs.declared.trouble.Trouble.{Trouble as Failure};
 
 use crate::advice::Advice;
 use crate::bound::Ports;
-use crate::ended::{Ended, Served};
+use crate::ended::{Ended, PlayedEnd, Served};
 use crate::journal::Journal;
 use crate::metrics::{open_ports, run_watched};
 use crate::runtime::Runtime;
@@ -43,18 +43,24 @@ fn say<R: Eprint + Clock + Wait + Drop>(
     journal.say(Gravity::Fault, format_args!("reflectord: {advice}"));
 }
 
-/// The exit status for how a run ended. What went wrong in it is said, if something did.
+/// The exit status for how a run ended. What went wrong in it is said, if something did: of a recording why it can't be
+/// played on.
 fn status_after<R: Eprint + Clock + Wait + Drop>(
     journal: &Journal<R>,
     settings: &Settings,
     why: Result<(), Fault>,
+    played: Option<PlayedEnd>,
 ) -> u8
     ensures { result ≡ status_for why }
 {
     match why {
         Ok(()) => status_of(&Ok(())),
         Err(fault) => {
-            let trouble = Trouble::new(Stage::Run, fault);
+            let stage = match played {
+                Some(PlayedEnd::Bad(number, bad)) => Stage::Play(number, bad),
+                _ => Stage::Run,
+            };
+            let trouble = Trouble::new(stage, fault);
             say(journal, settings, &trouble);
             status_of(&Err(trouble.fault))
         }
@@ -71,9 +77,14 @@ where
 {
     match runs() {
         Ok(ended) => {
-            let Ended { last, ran, stopped } = ended;
+            let Ended {
+                last,
+                ran,
+                stopped,
+                played,
+            } = ended;
             Served {
-                status: status_after(journal, settings, last.answer),
+                status: status_after(journal, settings, last.answer, played),
                 ran,
                 stopped,
             }
@@ -85,11 +96,11 @@ where
     }
 }
 
-/// Reflects a host until it ends, and hands out the exit status: 0 where the host ended between two messages, or where
-/// an operator has stopped the run, 4 where memory was refused, and 3 for every other fault, also where a port can't be
-/// bound or the host can't be reached or joined. What was at fault is said on standard error: `fault N`, and a line of
-/// plain words. Where the first host is to be tried again (`again`), it is never 0, unless an operator may stop the run
-/// (`control`).
+/// Reflects a host until it ends, and hands out the exit status: 0 where the host ended between two messages, or is a
+/// recording that ended inside one, or where an operator has stopped the run, 4 where memory was refused, and 3 for
+/// every other fault, also where a port can't be bound or the host can't be reached, joined or played on. What was at
+/// fault is said on standard error: `fault N`, and a line of plain words. Where the first host is to be tried again
+/// (`again`), it is never 0, unless an operator may stop the run (`control`).
 ///
 /// With the status it hands out what shows that `reflector::run_all` has run, and with what: with places of the roles
 /// that the settings ask for, in the form that they ask for, and a first host whose handshake was read of the link that

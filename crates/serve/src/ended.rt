@@ -7,13 +7,25 @@ use crate::order::Cut;
 use crate::status::status_of;
 use fault::Fault;
 use host_turns::Ending;
+use playback::BadPlayback;
 use reflector::Ran;
+
+/// How a recording has ended that was played as a host, where it wasn't played to its end.
+#[derive(Clone, Copy, Debug)]
+pub(crate) enum PlayedEnd {
+    /// It is cut off inside a message, or was left there.
+    CutOff,
+    /// The host of this number can't be played on, for this reason.
+    Bad(usize, BadPlayback),
+}
 
 /// A run that was run.
 #[derive(Drop)]
 pub(crate) struct Reflected {
     /// How its last host has ended.
     pub(crate) last: Ending,
+    /// How that has ended, if it is a recording that wasn't played to its end.
+    pub(crate) played: Option<PlayedEnd>,
     /// What shows that it was run.
     pub(crate) ran: Ran,
 }
@@ -21,10 +33,13 @@ pub(crate) struct Reflected {
 /// How a run ended that was run, or that an operator has stopped, it may be before its first host was joined.
 #[derive(Drop)]
 pub(crate) struct Ended {
-    /// How its last host has ended. A run that was stopped has ended well.
+    /// How its last host has ended. A run that was stopped has ended well, and so has one whose last host is a
+    /// recording that is cut off inside a message.
     pub(crate) last: Ending,
     pub(crate) ran: Option<Ran>,
     pub(crate) stopped: Option<Cut>,
+    /// How the last host has ended, if it is a recording that wasn't played to its end.
+    pub(crate) played: Option<PlayedEnd>,
 }
 
 /// What `serve` came to.

@@ -4,6 +4,7 @@ ghost use Rattle.std.specs.Prelude.{◌≡◌};
 
 use connections::JoiningLink;
 use link::{Gave, Link, Took};
+use playback::BadPlayback;
 use player::{DeafLink, PlayedFile};
 use run_traits::HostCount;
 use std::alloc::Global;
@@ -24,7 +25,7 @@ pub(crate) enum HostEnd<R: Wait + Clock + Drop> {
 
 impl<R: Wait + Clock + Drop> HostEnd<R> {
     ghost use Rattle.std.specs.Prelude.{◌≡◌, ◌⊎◌, OnOk, OnErr, true};
-    ghost use Rattle.serve.specs.Hosts.{end_state, is_closed, is_untimed};
+    ghost use Rattle.serve.specs.Hosts.{bad_of, end_state, is_closed, is_untimed};
 
     /// Lifts the deadline, if there is one. It fails where the system refuses that, and then the deadline stays.
     pub(crate) fn lift(&mut self) -> io::Result<()>
@@ -47,6 +48,16 @@ impl<R: Wait + Clock + Drop> HostEnd<R> {
             HostEnd::Tcp(link) => link.count_by(count),
             HostEnd::Played(host) => host.count_by(count),
             HostEnd::Deaf(_) => {}
+        }
+    }
+
+    /// Why the recording can't be played on that is read here, if it is one that can't.
+    pub(crate) fn why(&self) -> Option<BadPlayback>
+        ensures { result ≡ bad_of self.now }
+    {
+        match self {
+            HostEnd::Played(host) => host.why(),
+            HostEnd::Tcp(_) | HostEnd::Deaf(_) => None,
         }
     }
 

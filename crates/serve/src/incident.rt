@@ -4,6 +4,7 @@ ghost use Rattle.std.specs.Prelude.{◌≡◌};
 ghost use Rattle.serve.specs.Gravities.{end_gravity, gravity_for};
 
 use crate::order::{Cut, Skip};
+use playback::BadPlayback;
 use recorder::{EndReason, RecordingEnd, RecordingNews};
 use run_reports::Gravity;
 use run_traits::{Event, Log};
@@ -24,6 +25,8 @@ pub(crate) enum Incident<'a> {
     HostSkipped(Option<SocketAddr>, Skip),
     /// The recording that was played was left because another time of it was asked for.
     RecordingSought,
+    /// The recording that was played was left because it can't be played on, for this reason.
+    RecordingBad(BadPlayback),
     /// This happens to the recording at this path.
     Recording(&'a str, &'a RecordingNews),
 }
@@ -52,6 +55,7 @@ pub(crate) fn gravity_of(incident: &Incident<'_>) -> Gravity
     match incident {
         Incident::Noted(Event::HostOut { .. }) => Gravity::Warning,
         Incident::Noted(Event::OpenToAll { .. }) => Gravity::Warning,
+        Incident::RecordingBad(_) => Gravity::Warning,
         Incident::Recording(_, RecordingNews::Ended(end)) => end_gravity(end),
         _ => Gravity::Plain,
     }

@@ -412,6 +412,7 @@ impl Display for Words<'_> {
                 write!(f, "host-out address={place} why=\"stopped\"")
             }
             Incident::RecordingSought => f.write_str("host-out address=- why=\"seek\""),
+            Incident::RecordingBad(bad) => write!(f, "host-out address=- why=\"{bad}\""),
             Incident::HostSkipped(address, _skip) => {
                 let place = AddressOrDash { address: *address };
                 write!(f, "host-out address={place} why=\"next\"")

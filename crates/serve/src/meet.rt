@@ -237,7 +237,13 @@ where
     } = ends;
     let joined = match join_host(rt, terms.password, &mut reader) {
         Ok(joined) => joined,
-        Err(fault) => return Err(Trouble::new(Stage::Join(number), fault)),
+        Err(fault) => {
+            let stage = match reader.why() {
+                Some(bad) => Stage::Play(number, bad),
+                None => Stage::Join(number),
+            };
+            return Err(Trouble::new(stage, fault));
+        }
     };
     if !fits(&terms.room, joined.w, joined.h) {
         return Err(Trouble::new(Stage::Join(number), Fault::BadScreen));

@@ -8,16 +8,17 @@ ghost use Rattle.run_traits.specs.Unused.{unused};
 ghost use Rattle.settings.specs.ByRole.{HasPlaces};
 ghost use Rattle.settings.specs.Rooms.{FitsInto, IsRoomFor};
 ghost use Rattle.reflector.specs.Course.{IsReflected};
-ghost use Rattle.serve.specs.Hosts.{is_untimed};
+ghost use Rattle.serve.specs.Hosts.{HasRecording, end_state, is_untimed};
 ghost use Rattle.serve.specs.Turns.{endless};
-ghost use Rattle.serve.specs.Runs.{IsEndBy, IsRunBy, roles_for};
+ghost use Rattle.serve.specs.Runs.{CountsAs, IsEndBy, IsRunBy, roles_for};
 ghost use Rattle.serve.specs.Doors.{AreDoorsFor, AreBoth, roles_in};
 
 use crate::control::Control;
-use crate::ended::{Ended, Reflected};
+use crate::ended::{Ended, PlayedEnd, Reflected};
 use crate::entries::Entrances;
 use crate::form::form_of;
 use crate::halls::welcome;
+use crate::host_end::HostEnd;
 use crate::host_text::texts_of;
 use crate::incident::RunLog;
 use crate::meet::{Met, Terms};
@@ -32,21 +33,19 @@ use crate::web::shared;
 use crate::writer_reach::WriterReach;
 use connections::{Desk, HostListener, Seat, WriterSeat};
 use fault::Fault;
-use host_turns::{Ending, HostEnds, Hosts, RunScreen};
-use link::{Link, Rest};
+use host_turns::{Ending, HostEnds, RunScreen};
+use link::Rest;
 use play_control::Speed;
 use player::Player;
 use reflector::{InputCounts, Running, run_all};
 use rfb_wire::Joined;
 use roles::Role;
 use run_traits::{Alarm, Door, Log};
-use settings::{Settings, room_of};
+use settings::{Settings, recording_path, room_of};
 use shared_screen::{Naming, Opened, Publishes};
 use std::alloc::{AllocError, Global};
 use std::marker::Brand;
-use std::sync::{Arc, Wait};
-use std::thread::Threads;
-use std::time::Clock;
+use std::sync::Arc;
 use viewer_session::AnswerForm;
 use vnc_auth::Password;
 
@@ -56,13 +55,13 @@ const OWN_SPEED: Speed = Speed { hundredths: 100 };
 /// The run over a history that J names, in this room. Its first host, which fits, was joined over the end that is read,
 /// and given nothing over the other. What J names doesn't leave this call: what is handed out says in plain lists what
 /// the run was.
-fn over<J, L, H, D, B, W, R>(
+fn over<J, D, B, W, G, R>(
     rt: R,
     room: RunScreen,
     history: Opened<J>,
-    ends: HostEnds<L>,
+    ends: HostEnds<HostEnd<R>>,
     joined: Joined,
-    hosts: H,
+    supply: Supply<R, G>,
     doors: Vec<(Role, D)>,
     form: AnswerForm,
     everyone: Arc<B, Global>,
@@ -71,19 +70,18 @@ fn over<J, L, H, D, B, W, R>(
 ) -> Result<Reflected, Fault>
 where
     J: Naming + Publishes + Send + Sync + 'static,
-    L: Link + Send + 'static,
-    H: Hosts<L> + Send + 'static,
     D: Door + Send + 'static,
     B: Alarm + Drop + Send + Sync + 'static,
     W: Alarm + Rest + Drop + Send + Sync + 'static,
-    R: Threads + Wait + Clock + Copy + Drop + Send + 'static,
+    G: RunLog + Drop + Send + 'static,
+    R: Runtime,
     requires history { history.seen.book ≡ J.book }
     requires fits { (joined.w ≤ room.width) × (joined.h ≤ room.height) }
     requires size { (room.width ≡ J.width) × (room.height ≡ J.height) }
     requires doors { (1 ≤ length doors.items) × (length doors.items ≤ 65) }
     requires roles { All (λ door. D.is_for door.1 door.0) doors.items }
-    requires joins { ∥ Joins room.password unused (L.state ends.reader) joined ∥₁ }
-    requires writer { L.state ends.writer ≡ unused }
+    requires joins { ∥ Joins room.password unused (end_state ends.reader) joined ∥₁ }
+    requires writer { end_state ends.writer ≡ unused }
     ensures reflected { IfOk result (λ run. IsReflected run.ran.course) }
     ensures room { IfOk result (λ run.
         (run.ran.course.host ≡ joined) × (run.ran.course.room_width ≡ room.width)
@@ -91,23 +89,25 @@ where
     ensures roles { IfOk result (λ run. run.ran.course.roles ≡ map (λ door. door.0) doors.items) }
     ensures form { IfOk result (λ run. run.ran.course.form ≡ form) }
     ensures last { IfOk result (λ run. run.last ≡ run.ran.course.last_end) }
-    ensures never { IfOk result (λ run. goes_on run.last ≡ true → H.again hosts ≡ None) }
+    ensures never { IfOk result (λ run.
+        goes_on run.last ≡ true → endless (is_some supply.lifeline) supply.turns.again ≡ None) }
 {
     let Running {
         ran,
         last,
         links: _links,
-        hosts: _hosts,
+        hosts: supply,
         publisher: _publisher,
         taker: _taker,
         strokes: _strokes,
         dropped: _dropped,
         written: _written,
         places: _places,
-    } = run_all::<J, L, H, D, B, W, R>(
-        rt, room, history, ends, joined, hosts, doors, form, everyone, writer, input,
+    } = run_all::<J, _, _, D, B, W, R>(
+        rt, room, history, ends, joined, supply, doors, form, everyone, writer, input,
     )?;
-    Ok(Reflected { last, ran })
+    let played = supply.last_end;
+    Ok(Reflected { last, played, ran })
 }
 
 /// The room of a run, whose first host was joined so, and the password that its hosts may ask for.
@@ -171,7 +171,7 @@ where
         joined,
         password: _,
     } = met;
-    over::<Brand, _, _, _, _, _, _>(
+    over::<Brand, _, _, _, _, _>(
         rt,
         run_screen,
         Opened::new(),
@@ -280,7 +280,39 @@ fn player_of(alloc: Global, settings: &Settings) -> Result<Arc<Player, Global>, 
     }
 }
 
+/// Whether one of the hosts is a recording.
+#[tactic(auto, using(crate::proofs::Recordings::first_recording, crate::proofs::Recordings::next_recording))]
+fn has_recording(settings: &Settings) -> bool
+    ensures { result ≡ true → HasRecording settings.now }
+{
+    if recording_path(settings.host.as_str()).is_some() {
+        return true;
+    }
+    for host in &settings.next {
+        if let Some(_path) = recording_path(host.as_str()) {
+            return true;
+        }
+    }
+    false
+}
+
+/// How the end of a run's last host counts: as it is, or, where that is a recording that is cut off inside a message,
+/// as one between two messages.
+fn counted(settings: &Settings, last: Ending, played: Option<PlayedEnd>) -> Ending
+    ensures answer { CountsAs settings.now last.answer result.answer }
+    ensures called { result.has_called ≡ last.has_called }
+{
+    match (last.answer, played) {
+        (Err(Fault::LinkEnded), Some(PlayedEnd::CutOff)) if has_recording(settings) => Ending {
+            answer: Ok(()),
+            has_called: last.has_called,
+        },
+        _ => last,
+    }
+}
+
 /// How a run ended: as an operator has stopped it, if one has, or as it ended by itself.
+#[tactic(auto, using(crate::proofs::Endings::by_itself))]
 fn end_of(
     settings: &Settings,
     reflected: Result<Reflected, Trouble>,
@@ -290,17 +322,17 @@ fn end_of(
     requires socket { is_some stopped ≡ true → is_some settings.now.control ≡ true }
     ensures { IfOk result (λ ended. IsEndBy settings.now ended) }
 {
-    let _settings = settings;
     let Some(cut) = stopped else {
-        let Reflected { last, ran } = reflected?;
+        let Reflected { last, played, ran } = reflected?;
         return Ok(Ended {
-            last,
+            last: counted(settings, last, played),
             ran: Some(ran),
             stopped: None,
+            played,
         });
     };
     let ran = match reflected {
-        Ok(Reflected { last: _, ran }) => Some(ran),
+        Ok(Reflected { ran, .. }) => Some(ran),
         Err(_) => None,
     };
     Ok(Ended {
@@ -310,13 +342,14 @@ fn end_of(
         },
         ran,
         stopped: Some(cut),
+        played: None,
     })
 }
 
 /// Reflects the hosts of the settings, of which this password may be known, for viewers who come in by these entries,
 /// one for each role that is served, until the last host ends or an operator stops the run, if one can. `callers` has a
-/// listener at the number of each host that calls. `tape` is the recording that is to be made, if one is. `input` tells how much of the viewers' input waits. It hands out how
-/// the run ended, or fails where there was trouble before.
+/// listener at the number of each host that calls. `tape` is the recording that is to be made, if one is. `input` tells
+/// how much of the viewers' input waits. It hands out how the run ended, or fails where there was trouble before.
 #[tactic(auto, using(crate::proofs::Stopping::stopped))]
 pub(crate) fn run<G, R>(
     rt: R,

@@ -55,9 +55,10 @@ fn happening_of(incident: &Incident<'_>) -> Option<Happening> {
     match incident {
         Incident::Noted(event) => happening_at(event),
         Incident::MetricsListening(_) | Incident::HostsListening(_) => None,
-        Incident::HostStopped(..) | Incident::HostSkipped(..) | Incident::RecordingSought => {
-            Some(Happening::HostLeft)
-        }
+        Incident::HostStopped(..)
+        | Incident::HostSkipped(..)
+        | Incident::RecordingSought
+        | Incident::RecordingBad(_) => Some(Happening::HostLeft),
         Incident::Recording(..) => None,
     }
 }

@@ -7,6 +7,7 @@ ghost use Rattle.serve.specs.Hosts.{end_state, is_closed, is_untimed};
 ghost use Rattle.serve.specs.Turns.{endless, turn_of};
 ghost use Rattle.serve.specs.Stops.{IsOut};
 
+use crate::ended::PlayedEnd;
 use crate::held_host::HeldHost;
 use crate::host_end::HostEnd;
 use crate::incident::{Incident, RunLog};
@@ -21,6 +22,7 @@ use crate::turns::Turns;
 use connections::{Desk, HostCard, HostListener};
 use fault::Fault;
 use host_turns::{HostEnds, Hosts};
+use playback::BadPlayback;
 use player::Player;
 use rfb_wire::Joined;
 use run_traits::{Event, Log, clock_millis};
@@ -65,6 +67,8 @@ pub(crate) struct Supply<
     called: Option<usize>,
     /// The number of that host, if it is a recording. It has its turn again where another time of it is sought.
     played: Option<usize>,
+    /// How the host has ended that was left last, if it is a recording that wasn't played to its end.
+    pub(crate) last_end: Option<PlayedEnd>,
     /// What an operator ends the run by, or the turn of a host, if one can.
     lifeline: Option<Arc<Lifeline<Cut, Skip>, Global>>,
     /// What showed that the run was asked to stop, if it was seen.
@@ -115,6 +119,7 @@ impl<
             is_joined: false,
             called: None,
             played: None,
+            last_end: None,
             lifeline,
             stopped: None,
         }
@@ -191,7 +196,11 @@ impl<
                 })
             }
             Err(trouble) => {
-                self.note_out(Err(trouble.fault));
+                let bad = match trouble.stage {
+                    Stage::Play(_, bad) => Some(bad),
+                    _ => None,
+                };
+                self.note_out(Err(trouble.fault), bad);
                 Err(trouble)
             }
         }
@@ -349,10 +358,20 @@ impl<
         }
     }
 
-    /// Tells the log why a host was left, unless it wasn't joined and the tries of its round aren't noted. Where the
-    /// run was asked to stop, that is the reason, however the host's link ended. Where it was asked for its next host,
-    /// that is, too, unless the host was at fault by then.
-    fn note_out(&mut self, why: Result<(), Fault>)
+    /// How the host has ended that answered so, if it is a recording that wasn't played to its end: it ended inside a
+    /// message, or it can't be played on, for this reason.
+    fn played_end(&self, why: &Result<(), Fault>, bad: Option<BadPlayback>) -> Option<PlayedEnd> {
+        let number = self.played?;
+        match (why, bad) {
+            (Err(Fault::LinkFailed), Some(bad)) => Some(PlayedEnd::Bad(number, bad)),
+            (Err(Fault::LinkEnded), _) if self.is_joined => Some(PlayedEnd::CutOff),
+            _ => None,
+        }
+    }
+
+    /// Notes how a host has ended that was left, and tells the log, unless it wasn't joined and the tries of its round
+    /// aren't noted. `bad` is why it can't be played on, if it is a recording that can't.
+    fn note_out(&mut self, why: Result<(), Fault>, bad: Option<BadPlayback>)
         ensures turns { self.new.turns ≡ self.old.turns }
         ensures texts { self.new.texts ≡ self.old.texts }
         ensures lifeline { self.new.lifeline ≡ self.old.lifeline }
@@ -362,25 +381,38 @@ impl<
             Some(lifeline) => lifeline.let_go(&self.rt),
             None => None,
         };
+        self.last_end = self.played_end(&why, bad);
         self.desk.host_left(&self.rt);
         self.player.end(&self.rt);
         if !self.is_joined {
             self.noted_tries.fail(&self.rt);
         }
         if self.is_joined || self.noted_tries.is_noted() {
-            let has_ended = matches!(why, Ok(()) | Err(Fault::LinkEnded));
-            let event = Event::HostOut {
-                address: self.present,
-                why,
-            };
-            let incident = match (cut, skipped) {
-                (Some(cut), _) => Incident::HostStopped(self.present, cut),
-                (None, Some(skip)) if has_ended => Incident::HostSkipped(self.present, skip),
-                (None, None) if has_ended && self.sought().is_some() => Incident::RecordingSought,
-                _ => Incident::Noted(&event),
-            };
-            self.log.note_incident(&incident);
+            self.tell_out(why, cut, skipped);
         }
+    }
+
+    /// Tells the log why a host was left. Where the run was asked to stop, that is the reason, however the host's link
+    /// ended. Where it was asked for its next host, that is, too, unless the host was at fault by then. A recording
+    /// that is cut off has ended, and of one that can't be played on the reason is told.
+    fn tell_out(&self, why: Result<(), Fault>, cut: Option<Cut>, skipped: Option<Skip>) {
+        let has_ended = matches!(why, Ok(()) | Err(Fault::LinkEnded));
+        let why = match self.last_end {
+            Some(PlayedEnd::CutOff) => Ok(()),
+            _ => why,
+        };
+        let event = Event::HostOut {
+            address: self.present,
+            why,
+        };
+        let incident = match (cut, skipped, self.last_end) {
+            (Some(cut), _, _) => Incident::HostStopped(self.present, cut),
+            (None, Some(skip), _) if has_ended => Incident::HostSkipped(self.present, skip),
+            (None, None, _) if has_ended && self.sought().is_some() => Incident::RecordingSought,
+            (None, _, Some(PlayedEnd::Bad(_, bad))) => Incident::RecordingBad(bad),
+            _ => Incident::Noted(&event),
+        };
+        self.log.note_incident(&incident);
     }
 
     /// The pause before the first host has its turn again, unless the run is to stop.
@@ -515,7 +547,8 @@ impl<
     }
 
     fn left(&mut self, reader: &mut HostEnd<R>, why: Result<(), Fault>) {
+        let bad = reader.why();
         reader.close();
-        self.note_out(why);
+        self.note_out(why, bad);
     }
 }

@@ -1,13 +1,14 @@
 //! What went wrong, and where.
 
 use fault::Fault;
+use playback::BadPlayback;
 use roles::Role;
 use std::io;
 use std::io::ErrorKind;
 use web_root::RootFault;
 
 /// What was being done.
-#[derive(Clone, Copy, Debug, PartialEq, Eq)]
+#[derive(Clone, Copy, Debug)]
 pub(crate) enum Stage {
     /// Reading the address to listen on for viewers of a role.
     ReadBind(Role),
@@ -47,6 +48,8 @@ pub(crate) enum Stage {
     OpenRecording,
     /// The handshake with the host of this number, 0 for the first.
     Join(usize),
+    /// Playing the recording that is the host of this number, which can't be played on, for this reason.
+    Play(usize, BadPlayback),
     /// Starting the threads.
     Start,
     /// Reflecting.

@@ -24,6 +24,15 @@ const RECORDED: &[u8] = b"FBS 001.000\n\0\0\0\x43\
 /// Its index: the second block is a key moment. It begins behind 88 bytes.
 const INDEX: &[u8] = b"FBI 001.000\n\0\x36\xEE\x80\0\0\0\0\0\0\0\x58";
 
+/// Where its second block begins, in bytes.
+const SECOND_BLOCK: usize = 88;
+
+/// A block that ends inside a message, an update of two pixels, at 0 milliseconds.
+const BROKEN_OFF: &[u8] = b"\0\0\0\x0C\0\0\0\x01\0\0\0\0\0\x02\0\x01\0\0\0\0";
+
+/// The beginning of a block of 33,554,432 bytes, twice as many as one may have.
+const TOO_LONG: &[u8] = b"\x02\0\0\0";
+
 /// A viewer is shown the recording's beginning. It rests there, and then at another time, of which the viewer is shown
 /// what was recorded then; and it goes on.
 const IT_IS_PLAYED: &[Act] = &[Act {
@@ -59,6 +68,39 @@ const IT_IS_PLAYED: &[Act] = &[Act {
         ),
         Deed::IsObeyed("stop\n", "|done\n|"),
         Deed::Does(Step::SeesItGo),
+        Deed::Does(Step::Removes),
+    ],
+}];
+
+/// Recordings that don't end between two messages, while the run of another one makes a pause. One that ends inside a
+/// message has ended all the same, and one that can't be played on is told of with the reason. Each run has a port of
+/// its own, which its porter keeps until the process ends.
+const THEY_BREAK_OFF: &[Act] = &[Act {
+    who: VIEWER,
+    deeds: &[
+        Deed::Connects("view"),
+        Deed::Sees("host none", ""),
+        Deed::Runs(
+            "serve --log --host file:broken-off.fbs --view-only --view-places 1 --view |nobody|",
+            "host-out address=- why=\"ended\"",
+            0,
+        ),
+        Deed::Runs(
+            "serve --log --host file:too-long.fbs file:broken-off.fbs --view-only --view-places 1 --view |web_full|",
+            "host-out address=- why=\"a block of the recording is too long\"",
+            0,
+        ),
+        Deed::Runs(
+            "serve --host file:broken-off.fbs file:too-long.fbs --view-only --view-places 1 --view |metrics|",
+            "\nreflectord: can't play the recording of file:too-long.fbs: a block of the recording is too long\n",
+            FAULT,
+        ),
+        Deed::Runs(
+            "serve --host file:no-recording.fbs --view-only --view-places 1 --view |web_view|",
+            "\nreflectord: can't play the recording of file:no-recording.fbs: the file does not begin as a recording does\n",
+            FAULT,
+        ),
+        Deed::IsObeyed("stop\n", "|done\n|"),
         Deed::Does(Step::Removes),
     ],
 }];
@@ -119,6 +161,20 @@ const PLAYS: &[Play<'static>] = &[
     },
 ];
 
+const BREAKS: &[Play<'static>] = &[Play {
+    name: "recordings break off",
+    words: "--log --host file:paused.fbs --again 3600 --view-only --view-places 1 --control control-|full|",
+    notify: "",
+    acts: &[THEY_BREAK_OFF],
+    status: 0,
+    lines: &[
+        "listening role=view address=127.0.0.1:|view| places=1",
+        "host-tried recording=\"paused.fbs\" why=\"opened\"",
+        "host-joined address=- width=2 height=1 name=\"T\"",
+        "host-out address=- why=\"ended\"",
+    ],
+}];
+
 /// Lines that write the index of a recording, and the exit status of each. It isn't written over, and none is written of
 /// what is no recording.
 const INDEXES: &[(&str, u8)] = &[
@@ -126,6 +182,15 @@ const INDEXES: &[(&str, u8)] = &[
     ("show --index played.fbs", FAULT),
     ("show --index unplayed.fbs", FAULT),
 ];
+
+/// Writes a recording of the first block of the other one, and of what follows here.
+fn write_beginning(rt: &HostRuntime, path: &str, more: &[u8]) -> Result<(), Fail> {
+    let first = RECORDED.get(..SECOND_BLOCK).unwrap_or(&[]);
+    let mut bytes = first.to_vec(rt.alloc())?;
+    bytes.extend_from_slice(more)?;
+    fs::write(rt, path, bytes.as_slice())?;
+    Ok(())
+}
 
 #[test]
 fn recordings_are_played(rt: HostRuntime) -> Result<(), Fail> {
@@ -145,4 +210,13 @@ fn recordings_are_played(rt: HostRuntime) -> Result<(), Fail> {
         return Err(Fail::new("an index of no recording"));
     }
     perform_all(rt, alloc, PLAYS)
+}
+
+#[test]
+fn recordings_break_off(rt: HostRuntime) -> Result<(), Fail> {
+    fs::write(&rt, "no-recording.fbs", INDEX)?;
+    write_beginning(&rt, "paused.fbs", &[])?;
+    write_beginning(&rt, "broken-off.fbs", BROKEN_OFF)?;
+    write_beginning(&rt, "too-long.fbs", TOO_LONG)?;
+    perform_all(rt, rt.alloc(), BREAKS)
 }
