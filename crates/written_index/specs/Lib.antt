@@ -1,3 +1,4 @@
+pub mod Failing
 pub mod Paths
 pub mod Reasons
 pub mod Written
