@@ -4,7 +4,7 @@ ghost use Rattle.std.specs.Prelude.{◌≡◌, ◌+◌, ◌*◌, length, IfOk};
 
 use crate::scene::{ALL, Brush, Room, TILE, cut};
 use fault::Fault;
-use joined_runs::Runs;
+use joined_runs::RectForm;
 use pixel_format::Format;
 use raster::Encoding;
 use reflect_core::{Cut, Puts, ScreenSource};
@@ -39,7 +39,7 @@ impl Piece {
         requires { (cut.now.width ≡ 1920) × (cut.now.height ≡ 1080) }
     {
         let style = Style {
-            runs: Runs::OfRows,
+            runs: RectForm::OfRows,
             format: Format::HOST,
             choice: Choice {
                 kind: Encoding::Raw,

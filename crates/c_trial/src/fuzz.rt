@@ -6,4 +6,4 @@ mod codecs;
 mod hellos;
 mod host;
 mod pieces;
-mod report;
+mod transcript;

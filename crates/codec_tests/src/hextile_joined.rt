@@ -2,7 +2,7 @@
 
 use crate::colours::{BLUE, GREEN, RED};
 use hextile_codec::encode_as;
-use joined_runs::Runs;
+use joined_runs::RectForm;
 use pixel_format::Format;
 use std::test::Fail;
 
@@ -16,7 +16,7 @@ fn is_joined_as(values: &[u32], w: u16, h: u16, format: &Format, wanted: &[u8]) 
         return false;
     }
     let mut out = [0u8; 4 * MOST_PIXELS];
-    match encode_as(Runs::Joined, values, w, h, format, &mut out) {
+    match encode_as(RectForm::Joined, values, w, h, format, &mut out) {
         Some(count) => out.get(..count) == Some(wanted),
         None => wanted.is_empty(),
     }

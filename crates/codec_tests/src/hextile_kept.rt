@@ -8,7 +8,7 @@ ghost use Rattle.hextile_codec.specs.Kept.{AreFormsOf};
 
 use crate::colours::{BLUE, GREEN, RED};
 use hextile_codec::{PixelSource, TileForm, TileRoom, encode_as, encode_from, form_of_tile};
-use joined_runs::Runs;
+use joined_runs::RectForm;
 use pixel_format::Format;
 use raster::{Rect, tile_count, tile_rect};
 use std::alloc::{AllocError, Global};
@@ -163,7 +163,7 @@ fn write_kept(
         area: Rect { x: 0, y: 0, w, h },
         are_colours: true,
     };
-    encode_from(Runs::Joined, &source, forms, format, out)
+    encode_from(RectForm::Joined, &source, forms, format, out)
 }
 
 /// Whether the same bytes are written from colours with these forms as from their pixel values without any.
@@ -185,7 +185,7 @@ fn is_written_the_same(
         return false;
     }
     let mut wanted = [0u8; 4 * MOST_PIXELS];
-    let wanted_len = encode_as(Runs::Joined, values, w, h, format, &mut wanted);
+    let wanted_len = encode_as(RectForm::Joined, values, w, h, format, &mut wanted);
     let mut out = [0u8; 4 * MOST_PIXELS];
     let len = write_kept(forms, colours, w, h, format, &mut out);
     let count = len.unwrap_or(0);

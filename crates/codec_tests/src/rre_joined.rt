@@ -1,7 +1,7 @@
 //! RRE is written of joined runs: bytes worked by hand.
 
 use crate::colours::{BLUE, GREEN, RED};
-use joined_runs::Runs;
+use joined_runs::RectForm;
 use pixel_format::Format;
 use rre_codec::encode_as;
 
@@ -12,7 +12,7 @@ fn is_joined_as(values: &[u32], w: u16, h: u16, wanted: &[u8]) -> bool {
         return false;
     }
     let mut out = [0u8; 256];
-    match encode_as(Runs::Joined, values, w, h, &Format::HOST, &mut out) {
+    match encode_as(RectForm::Joined, values, w, h, &Format::HOST, &mut out) {
         Some(count) => out.get(..count) == Some(wanted),
         None => wanted.is_empty(),
     }

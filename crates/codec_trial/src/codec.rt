@@ -4,7 +4,7 @@ ghost use Rattle.std.specs.Prelude.{◌≡◌};
 
 use crate::record::{Answer, Record};
 use fault::Fault;
-use joined_runs::Runs;
+use joined_runs::RectForm;
 use pixel_format::Format;
 use raster::Raster;
 use std::alloc::Global;
@@ -86,7 +86,7 @@ pub fn is_read(alloc: Global, record: &Record<'_>, values: &[u32]) -> Result<boo
 
 /// What the writer answers for these values in a form: how many bytes stand at the front of `out`, or nothing. Also
 /// nothing where the values, or the room for them, aren't as many as the rectangle has.
-pub fn write(form: Runs, record: &Record<'_>, values: &[u32], out: &mut [u8]) -> Option<usize> {
+pub fn write(form: RectForm, record: &Record<'_>, values: &[u32], out: &mut [u8]) -> Option<usize> {
     let (width, height) = (u64::from(record.width), u64::from(record.height));
     let format = &record.format;
     let count = (width * height) as usize;
@@ -101,7 +101,7 @@ pub fn write(form: Runs, record: &Record<'_>, values: &[u32], out: &mut [u8]) ->
 }
 
 /// Whether the writer answers for these values what it has to, with this room.
-fn is_answered(form: Runs, record: &Record<'_>, values: &[u32], out: &mut [u8]) -> bool {
+fn is_answered(form: RectForm, record: &Record<'_>, values: &[u32], out: &mut [u8]) -> bool {
     match write(form, record, values, out) {
         Some(count) => record.answer == Answer::Data && out.get(..count) == Some(record.data),
         None => record.answer == Answer::Nothing,
@@ -111,7 +111,7 @@ fn is_answered(form: Runs, record: &Record<'_>, values: &[u32], out: &mut [u8]) 
 /// Whether the writer answers for these values in a form what it has to.
 pub fn is_written(
     alloc: Global,
-    form: Runs,
+    form: RectForm,
     record: &Record<'_>,
     values: &[u32],
 ) -> Result<bool, Fault> {

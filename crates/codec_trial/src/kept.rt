@@ -8,7 +8,7 @@ ghost use Rattle.hextile_codec.specs.Kept.{AreFormsOf};
 use crate::codec::values_of;
 use crate::record::Record;
 use hextile_codec::{PixelSource, TileForm, TileRoom, encode_as, encode_from, form_of_tile};
-use joined_runs::Runs;
+use joined_runs::RectForm;
 use pixel_format::Format;
 use raster::{Rect, tile_count, tile_rect};
 use std::alloc::{AllocError, Global};
@@ -63,7 +63,7 @@ fn write_kept(
         area: Rect { x: 0, y: 0, w, h },
         are_colours: true,
     };
-    encode_from(Runs::Joined, &source, forms, format, out).unwrap_or(0)
+    encode_from(RectForm::Joined, &source, forms, format, out).unwrap_or(0)
 }
 
 /// The least times, of this many rounds, in which colours are written as joined runs in a format, and how many bytes
@@ -100,7 +100,7 @@ pub fn kept_micros(rt: &HostRuntime, record: &Record<'_>, rounds: u64) -> Result
     };
     for _ in 0..rounds {
         let start = Instant::now(rt)?;
-        let _ = encode_as(Runs::Joined, values, w, h, format, out.as_mut_slice());
+        let _ = encode_as(RectForm::Joined, values, w, h, format, out.as_mut_slice());
         times.without = times.without.min(start.elapsed(rt)?.as_micros());
         let start = Instant::now(rt)?;
         times.bytes = write_kept(forms.as_slice(), colours, w, h, format, out.as_mut_slice());

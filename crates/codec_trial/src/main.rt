@@ -13,7 +13,7 @@ mod timing;
 
 use codec::{HEXTILE, is_read, is_written, values_of};
 use fault::Fault;
-use joined_runs::Runs;
+use joined_runs::RectForm;
 use kept::kept_micros;
 use pixel_format::Format;
 use record::{Answer, Record, read_record};
@@ -33,7 +33,12 @@ struct Tally {
 }
 
 /// Runs the codecs over one rectangle, which is written in a form. There is no data to read where the writer has to answer nothing.
-fn count(alloc: Global, form: Runs, record: &Record<'_>, tally: &mut Tally) -> Result<(), Fault> {
+fn count(
+    alloc: Global,
+    form: RectForm,
+    record: &Record<'_>,
+    tally: &mut Tally,
+) -> Result<(), Fault> {
     let values = values_of(alloc, &record.format, record.pixels)?;
     tally.rectangles = tally.rectangles.saturating_add(1);
     if record.answer == Answer::Nothing || is_read(alloc, record, values.as_slice())? {
@@ -49,7 +54,7 @@ fn count(alloc: Global, form: Runs, record: &Record<'_>, tally: &mut Tally) -> R
 }
 
 /// Runs the codecs over all rectangles of a file.
-fn count_all(alloc: Global, form: Runs, bytes: &[u8]) -> Result<Tally, Fail> {
+fn count_all(alloc: Global, form: RectForm, bytes: &[u8]) -> Result<Tally, Fail> {
     let mut tally = Tally {
         rectangles: 0,
         read: 0,
@@ -71,7 +76,7 @@ fn count_all(alloc: Global, form: Runs, bytes: &[u8]) -> Result<Tally, Fail> {
 }
 
 /// Runs the codecs over all rectangles of the file of this name.
-fn count_file(rt: &HostRuntime, form: Runs, name: &str) -> Result<Tally, Fail> {
+fn count_file(rt: &HostRuntime, form: RectForm, name: &str) -> Result<Tally, Fail> {
     let bytes = fs::read(rt, name)?;
     count_all(rt.alloc(), form, bytes.as_slice())
 }
@@ -79,9 +84,9 @@ fn count_file(rt: &HostRuntime, form: Runs, name: &str) -> Result<Tally, Fail> {
 /// Prints how many rectangles of the three files are read and written as told.
 fn check(rt: &HostRuntime) -> Result<(), Fail> {
     for (name, form) in [
-        ("rectangles", Runs::OfRows),
-        ("libvncserver", Runs::OfRows),
-        ("joined", Runs::Joined),
+        ("rectangles", RectForm::OfRows),
+        ("libvncserver", RectForm::OfRows),
+        ("joined", RectForm::Joined),
     ] {
         let tally = count_file(rt, form, name)?;
         println!(rt;

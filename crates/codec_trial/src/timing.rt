@@ -2,7 +2,7 @@
 
 use crate::codec::{draw, values_of, write};
 use crate::record::Record;
-use joined_runs::Runs;
+use joined_runs::RectForm;
 use raster::Raster;
 use std::test::Fail;
 use std::time::Instant;
@@ -33,7 +33,13 @@ pub fn writing_micros(
     let mut count = 0;
     for _ in 0..rounds {
         let start = Instant::now(rt)?;
-        count = write(Runs::OfRows, record, values.as_slice(), out.as_mut_slice()).unwrap_or(0);
+        count = write(
+            RectForm::OfRows,
+            record,
+            values.as_slice(),
+            out.as_mut_slice(),
+        )
+        .unwrap_or(0);
         least = least.min(start.elapsed(rt)?.as_micros());
     }
     Ok((least, count))

@@ -1,4 +1,4 @@
-//! A viewer's link, and what is tried over it. One function owns the link, and lends it to each trial.
+//! A viewer's link, and what is tried over it. One function owns the link, and lends it to each case.
 
 use crate::alarms::{ends_each_wait, keeps_early_rings};
 use crate::sockets::{make_seat, pair};
@@ -17,7 +17,7 @@ use std::time::Clock;
 
 /// What is tried over a new link.
 #[derive(Clone, Copy)]
-enum Trial {
+enum LinkCase {
     /// A ring before a wait ends the wait, and so does a rouse.
     EarlyRing,
     /// No ring is lost, and a stop ends each wait.
@@ -35,42 +35,42 @@ enum Trial {
     LongAnswer,
 }
 
-const TRIALS: [(&str, Trial); 8] = [
-    ("an early ring is kept", Trial::EarlyRing),
+const CASES: [(&str, LinkCase); 8] = [
+    ("an early ring is kept", LinkCase::EarlyRing),
     (
         "no ring is lost, and a stop ends each wait",
-        Trial::RingsAndStop,
+        LinkCase::RingsAndStop,
     ),
-    ("bytes come and go", Trial::BothWays),
-    ("small slices are kept", Trial::SmallSlices),
-    ("a closed peer is an end", Trial::ClosedPeer),
+    ("bytes come and go", LinkCase::BothWays),
+    ("small slices are kept", LinkCase::SmallSlices),
+    ("a closed peer is an end", LinkCase::ClosedPeer),
     (
         "slices that are kept wait for a viewer",
-        Trial::NoRoom(1_000),
+        LinkCase::NoRoom(1_000),
     ),
     (
         "slices that are written at once wait for a viewer",
-        Trial::NoRoom(16_384),
+        LinkCase::NoRoom(16_384),
     ),
-    ("a slow viewer is given a long answer", Trial::LongAnswer),
+    ("a slow viewer is given a long answer", LinkCase::LongAnswer),
 ];
 
 fn plays<R: Threads + Wait + Clock + Send + Sync, L: Link + Send>(
     rt: &R,
     net: &HostRuntime,
-    trial: Trial,
+    case: LinkCase,
     seat: &Arc<Seat, Global>,
     link: &mut L,
     mut far: TcpStream,
 ) -> io::Result<bool> {
-    match trial {
-        Trial::EarlyRing => Ok(keeps_early_rings(rt, seat, link)),
-        Trial::RingsAndStop => ends_each_wait(rt, net, seat, link),
-        Trial::BothWays => passes_both_ways(link, &mut far),
-        Trial::SmallSlices => keeps_small_slices(link, &mut far),
-        Trial::ClosedPeer => sees_the_end(link, far),
-        Trial::NoRoom(len) => waits_for_a_viewer(link, &mut far, len),
-        Trial::LongAnswer => gives_a_long_answer(rt, link, &mut far),
+    match case {
+        LinkCase::EarlyRing => Ok(keeps_early_rings(rt, seat, link)),
+        LinkCase::RingsAndStop => ends_each_wait(rt, net, seat, link),
+        LinkCase::BothWays => passes_both_ways(link, &mut far),
+        LinkCase::SmallSlices => keeps_small_slices(link, &mut far),
+        LinkCase::ClosedPeer => sees_the_end(link, far),
+        LinkCase::NoRoom(len) => waits_for_a_viewer(link, &mut far, len),
+        LinkCase::LongAnswer => gives_a_long_answer(rt, link, &mut far),
     }
 }
 
@@ -78,19 +78,19 @@ fn plays<R: Threads + Wait + Clock + Send + Sync, L: Link + Send>(
 fn is_right<R: Threads + Wait + Clock + Copy + Drop + Send + Sync>(
     rt: R,
     net: &HostRuntime,
-    trial: Trial,
+    case: LinkCase,
 ) -> io::Result<bool> {
     let seat = make_seat(net)?;
     let (far, near) = pair(net)?;
     let mut link = ViewerTcpLink::new(rt, net.alloc(), near, &seat, 60)?;
-    plays(&rt, net, trial, &seat, &mut link, far)
+    plays(&rt, net, case, &seat, &mut link, far)
 }
 
-/// Each trial comes out right, over its own link. A trial that doesn't is named.
+/// Each case comes out right, over its own link. A case that doesn't is named.
 #[test]
 fn each_trial_is_right(rt: HostRuntime) -> Result<(), Fail> {
-    for (name, trial) in TRIALS {
-        if !is_right(rt, &rt, trial).unwrap_or(false) {
+    for (name, case) in CASES {
+        if !is_right(rt, &rt, case).unwrap_or(false) {
             return Err(Fail::new(name));
         }
     }

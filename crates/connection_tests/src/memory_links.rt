@@ -1,6 +1,6 @@
 //! Links over a socket in memory, where each byte that goes either way can be seen.
 
-use crate::memory_socket::{MemorySocket, Turn};
+use crate::memory_socket::{MemorySocket, Transfer};
 use crate::sockets::{VERSION, make_seat};
 use connections::{HostLink, JoiningLink, ViewerTcpLink};
 use link::{Gave, Link, Took};
@@ -46,8 +46,8 @@ enum Act {
 struct Case {
     name: &'static str,
     comes: &'static [u8],
-    sends: &'static [Turn],
-    receives: &'static [Turn],
+    sends: &'static [Transfer],
+    receives: &'static [Transfer],
     acts: &'static [Act],
     failures: u64,
     stands: Parting,
@@ -59,13 +59,13 @@ const GIVEN_IN_ORDER: Case = Case {
     name: "viewer is given each byte in order once",
     comes: b"",
     sends: &[
-        Turn::AtMost(3),
-        Turn::Fails(ErrorKind::WouldBlock),
-        Turn::AtMost(1),
-        Turn::Fails(ErrorKind::Interrupted),
-        Turn::AtMost(7_000),
-        Turn::Fails(ErrorKind::WouldBlock),
-        Turn::AtMost(100),
+        Transfer::AtMost(3),
+        Transfer::Fails(ErrorKind::WouldBlock),
+        Transfer::AtMost(1),
+        Transfer::Fails(ErrorKind::Interrupted),
+        Transfer::AtMost(7_000),
+        Transfer::Fails(ErrorKind::WouldBlock),
+        Transfer::AtMost(100),
     ],
     receives: &[],
     acts: &[
@@ -90,7 +90,11 @@ const GIVEN_IN_ORDER: Case = Case {
 const LARGE_BEHIND_KEPT: Case = Case {
     name: "large slice goes out with what is kept",
     comes: b"",
-    sends: &[Turn::AtMost(5), Turn::AtMost(7), Turn::AtMost(10)],
+    sends: &[
+        Transfer::AtMost(5),
+        Transfer::AtMost(7),
+        Transfer::AtMost(10),
+    ],
     receives: &[],
     acts: &[
         Act::Gives(VERSION, Gave::Bytes(12)),
@@ -113,10 +117,10 @@ const TAKEN_IN_ORDER: Case = Case {
     comes: HELLO,
     sends: &[],
     receives: &[
-        Turn::AtMost(5),
-        Turn::Fails(ErrorKind::WouldBlock),
-        Turn::AtMost(8),
-        Turn::AtMost(1),
+        Transfer::AtMost(5),
+        Transfer::Fails(ErrorKind::WouldBlock),
+        Transfer::AtMost(8),
+        Transfer::AtMost(1),
     ],
     acts: &[
         Act::Brings(b"RFB 0"),
@@ -133,11 +137,17 @@ static CASES: [Case; 3] = [GIVEN_IN_ORDER, LARGE_BEHIND_KEPT, TAKEN_IN_ORDER];
 
 /// What the system says of a connection that it gave up for want of confirmations, of one that its peer has closed, and
 /// of another error, and how the connection stands then.
-const PARTINGS: [(&[Turn], Parting); 4] = [
-    (&[Turn::Fails(ErrorKind::TimedOut)], Parting::Stalled),
-    (&[Turn::Fails(ErrorKind::ConnectionReset)], Parting::Closed),
-    (&[Turn::Fails(ErrorKind::BrokenPipe)], Parting::Closed),
-    (&[Turn::Fails(ErrorKind::HostUnreachable)], Parting::Broken),
+const PARTINGS: [(&[Transfer], Parting); 4] = [
+    (&[Transfer::Fails(ErrorKind::TimedOut)], Parting::Stalled),
+    (
+        &[Transfer::Fails(ErrorKind::ConnectionReset)],
+        Parting::Closed,
+    ),
+    (&[Transfer::Fails(ErrorKind::BrokenPipe)], Parting::Closed),
+    (
+        &[Transfer::Fails(ErrorKind::HostUnreachable)],
+        Parting::Broken,
+    ),
 ];
 
 /// A read that fails, and a write that fails.
@@ -146,14 +156,14 @@ const READS: &[Act] = &[Act::Takes(Took::Failed)];
 const WRITES: &[Act] = &[Act::Gives(VERSION, Gave::Bytes(12)), Act::Flushes];
 
 /// What a host's socket does: three bytes go in two sends, and a fourth fails.
-const HOST_SENDS: &[Turn] = &[
-    Turn::AtMost(2),
-    Turn::Fails(ErrorKind::WouldBlock),
-    Turn::AtMost(9),
-    Turn::Fails(ErrorKind::BrokenPipe),
+const HOST_SENDS: &[Transfer] = &[
+    Transfer::AtMost(2),
+    Transfer::Fails(ErrorKind::WouldBlock),
+    Transfer::AtMost(9),
+    Transfer::Fails(ErrorKind::BrokenPipe),
 ];
 
-const HOST_RECEIVES: &[Turn] = &[Turn::AtMost(4), Turn::Fails(ErrorKind::WouldBlock)];
+const HOST_RECEIVES: &[Transfer] = &[Transfer::AtMost(4), Transfer::Fails(ErrorKind::WouldBlock)];
 
 /// What is given to a host, what is taken from it, and what comes of both once its link is closed.
 const HOST_TOLD: &[Act] = &[
@@ -290,7 +300,7 @@ fn goes_as_told<R: Wait + Clock + Drop>(rt: R, net: &HostRuntime, case: &Case) -
 fn says_how_it_stands<R: Wait + Clock + Copy + Drop>(
     rt: R,
     net: &HostRuntime,
-    turns: &'static [Turn],
+    turns: &'static [Transfer],
     stands: Parting,
 ) -> io::Result<bool> {
     let read = Case {

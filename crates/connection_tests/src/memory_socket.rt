@@ -10,7 +10,7 @@ use std::time::Duration;
 
 /// What one send or receive does.
 #[derive(Clone, Copy)]
-pub(crate) enum Turn {
+pub(crate) enum Transfer {
     /// This many bytes go at most.
     AtMost(usize),
     /// It fails so.
@@ -19,14 +19,14 @@ pub(crate) enum Turn {
 
 /// The turns of the sends, or those of the receives. After the last one as many bytes go as can.
 #[derive(Drop)]
-struct Turns {
-    turns: Vec<Turn>,
+struct Transfers {
+    turns: Vec<Transfer>,
     used: usize,
 }
 
-impl Turns {
-    fn new(turns: Vec<Turn>) -> Turns {
-        Turns { turns, used: 0 }
+impl Transfers {
+    fn new(turns: Vec<Transfer>) -> Transfers {
+        Transfers { turns, used: 0 }
     }
 
     /// How many bytes go at most at the next turn.
@@ -34,8 +34,8 @@ impl Turns {
         let turn = self.turns.get(self.used);
         self.used = self.used.saturating_add(1);
         match turn {
-            Some(Turn::AtMost(most)) => Ok(*most),
-            Some(Turn::Fails(kind)) => Err(io::Error::from(*kind)),
+            Some(Transfer::AtMost(most)) => Ok(*most),
+            Some(Transfer::Fails(kind)) => Err(io::Error::from(*kind)),
             None => Ok(usize::MAX),
         }
     }
@@ -47,8 +47,8 @@ pub(crate) struct MemorySocket {
     alloc: Global,
     comes: Vec<u8>,
     came: usize,
-    sends: Turns,
-    receives: Turns,
+    sends: Transfers,
+    receives: Transfers,
     is_closed: bool,
     pub(crate) sent: Vec<u8>,
     pub(crate) received: Vec<u8>,
@@ -61,8 +61,8 @@ impl MemorySocket {
     pub(crate) fn new(
         alloc: Global,
         comes: &[u8],
-        sends: &[Turn],
-        receives: &[Turn],
+        sends: &[Transfer],
+        receives: &[Transfer],
     ) -> io::Result<MemorySocket>
         ensures sent { IfOk result (λ socket. socket.sent.items ≡ []) }
         ensures received { IfOk result (λ socket. socket.received.items ≡ []) }
@@ -74,8 +74,8 @@ impl MemorySocket {
             alloc,
             comes,
             came: 0,
-            sends: Turns::new(sends),
-            receives: Turns::new(receives),
+            sends: Transfers::new(sends),
+            receives: Transfers::new(receives),
             is_closed: false,
             sent: Vec::new(alloc),
             received: Vec::new(alloc),

@@ -10,7 +10,7 @@ use crate::wire::{Peer, Wire};
 use arrayvec::ArrayVec;
 use fault::Fault;
 use host_turns::{HostEnds, NoHosts, RunScreen};
-use joined_runs::Runs;
+use joined_runs::RectForm;
 use reflector::{InputCounts, Running, run_all};
 use rfb_wire::Joined;
 use roles::Role;
@@ -101,7 +101,7 @@ where
         NoHosts,
         doors,
         AnswerForm {
-            runs: Runs::Joined,
+            runs: RectForm::Joined,
             zrle: false,
         },
         everyone,

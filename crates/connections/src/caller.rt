@@ -390,9 +390,9 @@ impl Newcomer for WebNewcomer {
         }
     }
 
-    fn part(self, is_late: bool) {
+    fn dismiss(self, is_late: bool) {
         if let WebNewcomer::IsAsked(locked_out) = self {
-            locked_out.knocker.part(is_late);
+            locked_out.knocker.dismiss(is_late);
         }
     }
 

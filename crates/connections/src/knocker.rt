@@ -116,7 +116,7 @@ impl<S: Socket> Knocker<S> {
     }
 
     /// Lets it go, late or not. If it has answered wrongly, it is told so.
-    pub(crate) fn part(self, is_late: bool) {
+    pub(crate) fn dismiss(self, is_late: bool) {
         if is_late && self.wrong.is_some() {
             self.greeting.refuse();
         }

@@ -168,8 +168,8 @@ impl Newcomer for TcpNewcomer {
         self.knocker.complaint(is_late)
     }
 
-    fn part(self, is_late: bool) {
-        self.knocker.part(is_late);
+    fn dismiss(self, is_late: bool) {
+        self.knocker.dismiss(is_late);
     }
 
     fn enter<R: Wait + Clock>(self, rt: &R, patience: Duration) -> Option<Entrance> {

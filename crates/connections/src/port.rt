@@ -94,7 +94,7 @@ pub(crate) trait Newcomer: Drop {
     fn complaint(&self, is_late: bool) -> Option<Event<'static>>;
 
     /// Lets it go, late or not, with a last word if one is due.
-    fn part(self, is_late: bool);
+    fn dismiss(self, is_late: bool);
 
     /// Brings it to the lobby of the port that it came by, if it may be let in. It answers `None` where it may not.
     fn enter<R: Wait + Clock>(self, rt: &R, patience: Duration) -> Option<Entrance>;

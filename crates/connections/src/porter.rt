@@ -181,7 +181,7 @@ impl<P: Port> Porch<P> {
             if let Some(event) = comer.complaint(is_late) {
                 log.note(&event);
             }
-            comer.part(is_late);
+            comer.dismiss(is_late);
         }
     }
 

@@ -10,21 +10,21 @@ use Rattle.raster.specs.Encoding.{Carried, Subrect, drawn_bytes, drawn_leaves, n
 use Rattle.raster.proofs.Places.{length_values, values_at}
 use Rattle.raster.proofs.Values.{values_back}
 use Rattle.raster.proofs.HextileSpelled.{IsTile, tile_lies}
-use Rattle.joined_runs.specs.declared.runs.Runs.{Runs}
+use Rattle.joined_runs.specs.declared.rect_form.RectForm.{RectForm}
 use Rattle.joined_runs.specs.Joined.{background_of, subrects_of, tile_bytes_as, tiles_from_as, hextile_bytes_as}
 use Rattle.joined_runs.proofs.Recoloured.{background_same, subrects_same, recoloured}
-use Rattle.hextile_codec.specs.declared.kind.Kind.{Kind}
-use Rattle.hextile_codec.specs.declared.kind.Kind.TheVariants.{Raw, Plain, TwoColours, Coloured}
-use Rattle.hextile_codec.specs.declared.kind.TileChoice.{TileChoice}
+use Rattle.hextile_codec.specs.declared.tile_kind.TileKind.{TileKind}
+use Rattle.hextile_codec.specs.declared.tile_kind.TileKind.TheVariants.{Raw, Plain, TwoColours, Coloured}
+use Rattle.hextile_codec.specs.declared.tile_kind.TileChoice.{TileChoice}
 use Rattle.hextile_codec.specs.declared.source.TileValues.{TileValues}
-use Rattle.hextile_codec.specs.Kinds.{IsChosen, IsWrittenAs}
+use Rattle.hextile_codec.specs.TileKinds.{IsChosen, IsWrittenAs}
 use Rattle.hextile_codec.specs.Sources.{AreOfTile}
 
 uncoloured : (ss : List Subrect) → map (recoloured (λ v. v)) ss ≡ ss
 uncoloured [] = refl
 uncoloured (s ∷ ss) = ap (λ t. s ∷ t) (uncoloured ss)
 
-module _ (form : Runs) (w h : ℕ) (a b : Canvas) (wide : 0 < w) (high : 0 < h) (looks : LooksLike w h a b) where
+module _ (form : RectForm) (w h : ℕ) (a b : Canvas) (wide : 0 < w) (high : 0 < h) (looks : LooksLike w h a b) where
   pub background_alike : background_of form w h a ≡ background_of form w h b
   background_alike = background_same (λ v. v) w h b a (λ x y u v lx ly lu lv e. e) looks refl wide high form
 
@@ -45,7 +45,7 @@ module _ (form : Runs) (w h : ℕ) (a b : Canvas) (wide : 0 < w) (high : 0 < h) 
         ap (λ background. bytes_by background (subrects_of form w h a) (values_of w h a)) background_alike
         ∙ (ap (λ subrects. bytes_by (background_of form w h b) subrects (values_of w h a)) subrects_alike ∙ ap (λ values. bytes_by (background_of form w h b) (subrects_of form w h b) values) values_alike)
 
-    written_alike : (found : List Subrect) (background : ℕ) (kind : Kind) (bytes : List ℕ) → IsWrittenAs form format before w h b found background kind bytes → IsWrittenAs form format before w h a found background kind bytes
+    written_alike : (found : List Subrect) (background : ℕ) (kind : TileKind) (bytes : List ℕ) → IsWrittenAs form format before w h b found background kind bytes → IsWrittenAs form format before w h a found background kind bytes
     written_alike found background Raw bytes s = rw values_alike s
     written_alike found background Plain bytes s = (s.0, s.1, s.2 ∙ sym subrects_alike)
     written_alike found background (TwoColours v) bytes s = (s.0, s.1, s.2 ∙ sym subrects_alike)
@@ -67,14 +67,14 @@ own_looks w h canvas values is x y lx ly =
     rw (left, top, is) (sym (values_at w h canvas x y lx ly))
 
 -- So a tile is chosen by any values that show it.
-pub of_tile : (form : Runs) (format : PixelFormat) (before : Carried) (seen : TileValues) (w h : ℕ) (canvas : Canvas) → 0 < w → 0 < h → AreOfTile seen w h canvas → (found : List Subrect) (choice : TileChoice)
+pub of_tile : (form : RectForm) (format : PixelFormat) (before : Carried) (seen : TileValues) (w h : ℕ) (canvas : Canvas) → 0 < w → 0 < h → AreOfTile seen w h canvas → (found : List Subrect) (choice : TileChoice)
     → IsChosen form format before seen.tile.w seen.tile.h (part_of seen.tile (value_at seen.width seen.values.now)) found choice → IsChosen form format before w h canvas found choice
 of_tile form format before seen w h canvas wide high of found choice is =
     chosen_alike form w h canvas (part_of seen.tile (value_at seen.width seen.values.now)) wide high of.looks format before found choice (rw (of.wide, of.high) at is)
 
 -- ---- a rectangle's tiles
 
-module _ (form : Runs) (format : PixelFormat) (w h : ℕ) (a b : Canvas) (wide : 0 < w) (looks : LooksLike w h a b) where
+module _ (form : RectForm) (format : PixelFormat) (w h : ℕ) (a b : Canvas) (wide : 0 < w) (looks : LooksLike w h a b) where
   tile_looks : (tile : Rect) → IsTile w h tile → LooksLike tile.w tile.h (part_of tile a) (part_of tile b)
   tile_looks tile lies x y lx ly = looks (tile.x + x) (tile.y + y) (omega (arith, lies.across)) (omega (arith, lies.down))
 
@@ -92,7 +92,7 @@ module _ (form : Runs) (format : PixelFormat) (w h : ℕ) (a b : Canvas) (wide :
   all_alike = from_alike nothing_carried 0 (tile_count w h) (omega arith)
 
 -- The bytes of what a canvas shows are those of its values.
-pub of_values : (form : Runs) (format : PixelFormat) (w h : ℕ) (canvas : Canvas) → 0 < w → hextile_bytes_as form format w h canvas ≡ hextile_bytes_as form format w h (value_at w (values_of w h canvas))
+pub of_values : (form : RectForm) (format : PixelFormat) (w h : ℕ) (canvas : Canvas) → 0 < w → hextile_bytes_as form format w h canvas ≡ hextile_bytes_as form format w h (value_at w (values_of w h canvas))
 of_values form format w h canvas wide = all_alike form format w h canvas (value_at w (values_of w h canvas)) wide (λ x y lx ly. sym (values_at w h canvas x y lx ly))
 
 -- The values of a canvas that shows a list of them, also where there are none.

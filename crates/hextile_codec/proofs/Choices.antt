@@ -8,12 +8,12 @@ use Rattle.pixel_format.specs.PixelFormat.{PixelFormat}
 use Rattle.raster.specs.declared.rect.Rect.{Rect}
 use Rattle.raster.specs.Screen.{Canvas, part_of, tile_count, tile_rect}
 use Rattle.raster.specs.Encoding.{Carried, Subrect}
-use Rattle.joined_runs.specs.declared.runs.Runs.TheVariants.{Joined}
+use Rattle.joined_runs.specs.declared.rect_form.RectForm.TheVariants.{Joined}
 use Rattle.joined_runs.specs.Joined.{tile_bytes_as}
 use Rattle.hextile_codec.specs.declared.kept.TileForm.{TileForm}
-use Rattle.hextile_codec.specs.declared.kind.TileChoice.{TileChoice}
+use Rattle.hextile_codec.specs.declared.tile_kind.TileChoice.{TileChoice}
 use Rattle.joined_runs.specs.Tinted.{tinted_subrect}
-use Rattle.hextile_codec.specs.Kinds.{IsChosen, subrect_of}
+use Rattle.hextile_codec.specs.TileKinds.{IsChosen, subrect_of}
 use Rattle.hextile_codec.specs.Chosen.{AreChosenBy, IsChosenBy, carried_to}
 
 -- What holds of an answer that is no error, and what holds of one that is.

@@ -8,11 +8,11 @@ use Rattle.std.proofs.lemmas.Grind.{flat_map-append}
 use Rattle.std.proofs.lemmas.List.Elements.{filter-append}
 use Rattle.raster.specs.Screen.{Canvas}
 use Rattle.raster.specs.Encoding.{Subrect, begins_run, run_from, runs_of_row}
-use Rattle.joined_runs.specs.declared.runs.Runs.TheVariants.{OfRows, Joined}
+use Rattle.joined_runs.specs.declared.rect_form.RectForm.TheVariants.{OfRows, Joined}
 use Rattle.joined_runs.specs.Joined.{background_of, is_below, runs_over, with_below, written}
 use Rattle.joined_runs.proofs.WrittenParts.{written_append}
 use Rattle.hextile_codec.specs.Crowded.{is_corner, shown_in, AreBegun}
-use Rattle.hextile_codec.specs.Kinds.{has_one_value, HasMany}
+use Rattle.hextile_codec.specs.TileKinds.{has_one_value, HasMany}
 use Rattle.hextile_codec.specs.Marks.{runs_of_rows}
 use Rattle.hextile_codec.proofs.MarkedRuns.{range_split}
 use Rattle.hextile_codec.proofs.RowMarks.{Shows}

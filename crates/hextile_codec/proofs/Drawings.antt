@@ -11,13 +11,13 @@ use Rattle.raster.specs.Encoding.{Subrect, Carried, nothing_carried, raw_bytes, 
 use Rattle.raster.proofs.Spellings.{Each}
 use Rattle.raster.proofs.Runs.{each_run, run_some, run_within}
 use Rattle.raster.proofs.Places.{length_values}
-use Rattle.joined_runs.specs.declared.runs.Runs.{Runs}
-use Rattle.joined_runs.specs.declared.runs.Runs.TheVariants.{OfRows, Joined}
+use Rattle.joined_runs.specs.declared.rect_form.RectForm.{RectForm}
+use Rattle.joined_runs.specs.declared.rect_form.RectForm.TheVariants.{OfRows, Joined}
 use Rattle.joined_runs.specs.Joined.{background_of, subrects_of, tile_bytes_as}
 use Rattle.joined_runs.proofs.JoinedDrawn.{each_joined, joined_within}
-use Rattle.hextile_codec.specs.declared.kind.Kind.{Kind}
-use Rattle.hextile_codec.specs.declared.kind.Kind.TheVariants.{Raw, Plain, TwoColours, Coloured}
-use Rattle.hextile_codec.specs.Kinds.{has_one_value, kind_of, drawn_len, leaves_of, IsWrittenAs, IsChosen}
+use Rattle.hextile_codec.specs.declared.tile_kind.TileKind.{TileKind}
+use Rattle.hextile_codec.specs.declared.tile_kind.TileKind.TheVariants.{Raw, Plain, TwoColours, Coloured}
+use Rattle.hextile_codec.specs.TileKinds.{has_one_value, kind_of, drawn_len, leaves_of, IsWrittenAs, IsChosen}
 
 -- ---- lengths
 
@@ -109,7 +109,7 @@ many_len format before background ss =
     let mask : ℕ = background_bit before background + 24 in
     omega (arith, length-append (mask ∷ bb) (length ss ∷ flat_map (coloured_bytes format) ss), coloured_len format ss)
 
-pub drawn_has : (format : PixelFormat) (before : Carried) (background : ℕ) (ss : List Subrect) (kind : Kind) → kind ≡ kind_of ss → drawn_len format before background kind (length ss) ≡ length (drawn_bytes format before background ss)
+pub drawn_has : (format : PixelFormat) (before : Carried) (background : ℕ) (ss : List Subrect) (kind : TileKind) → kind ≡ kind_of ss → drawn_len format before background kind (length ss) ≡ length (drawn_bytes format before background ss)
 drawn_has format before background ss Raw e = absurd (never_raw ss (sym e))
 drawn_has format before background ss Plain e = sym (ap length (drawn_plain format before background ss (sym e)) ∙ omega arith)
 drawn_has format before background ss (TwoColours v) e = sym (ap length (drawn_two format before background ss v (sym e)) ∙ two_len format before background ss v)
@@ -138,7 +138,7 @@ kind_leaves background (s ∷ ss) = leaves_by (list_all (λ t. t.value == s.valu
 
 -- ---- the choice
 
-module _ (form : Runs) (format : PixelFormat) (before : Carried) (w h : ℕ) (canvas : Canvas) where
+module _ (form : RectForm) (format : PixelFormat) (before : Carried) (w h : ℕ) (canvas : Canvas) where
   abbrev as_raw : List ℕ
   as_raw = 1 ∷ raw_bytes format (values_of w h canvas)
 
@@ -165,13 +165,13 @@ module _ (form : Runs) (format : PixelFormat) (before : Carried) (w h : ℕ) (ca
       let is = is_raw le in
       record { len = size ∙ (sym as_raw_len ∙ ap (λ (t : List ℕ × Carried). length t.0) (sym is)); leaves = ap (λ (t : List ℕ × Carried). t.1) (sym is); written = ap (λ (t : List ℕ × Carried). t.0) is }
 
-  drawn_as : (found : List Subrect) (background : ℕ) (kind : Kind) (bytes : List ℕ) → bytes ≡ drawn_bytes format before background found → kind ≡ kind_of found → found ≡ subrects_of form w h canvas → IsWrittenAs form format before w h canvas found background kind bytes
+  drawn_as : (found : List Subrect) (background : ℕ) (kind : TileKind) (bytes : List ℕ) → bytes ≡ drawn_bytes format before background found → kind ≡ kind_of found → found ≡ subrects_of form w h canvas → IsWrittenAs form format before w h canvas found background kind bytes
   drawn_as found background Raw bytes e k r = absurd (never_raw found (sym k))
   drawn_as found background Plain bytes e k r = (e, k, r)
   drawn_as found background (TwoColours v) bytes e k r = (e, k, r)
   drawn_as found background Coloured bytes e k r = (e, k, r)
 
-  pub chosen_drawn : (found : List Subrect) (background len : ℕ) (kind : Kind) → found ≡ subrects_of form w h canvas → background ≡ background_of form w h canvas → kind ≡ kind_of found → len ≡ drawn_len format before background kind (length found) → len < 1 + pixel_len format * (w * h)
+  pub chosen_drawn : (found : List Subrect) (background len : ℕ) (kind : TileKind) → found ≡ subrects_of form w h canvas → background ≡ background_of form w h canvas → kind ≡ kind_of found → len ≡ drawn_len format before background kind (length found) → len < 1 + pixel_len format * (w * h)
       → IsChosen form format before w h canvas found (record { kind = kind; background = background; len = len })
   chosen_drawn found background len kind all first is size lt =
       let same : drawn_bytes format before background found ≡ as_drawn = ap (λ b. drawn_bytes format before b found) first ∙ ap (λ ss. drawn_bytes format before (background_of form w h canvas) ss) all in
@@ -188,7 +188,7 @@ module _ (form : Runs) (format : PixelFormat) (before : Carried) (w h : ℕ) (ca
 abbrev pub is_small : Subrect → Type 0
 is_small s = (s.area.x < 16) × (s.area.y < 16) × (0 < s.area.w) × (s.area.w ≤ 16) × ((0 < s.area.h) × (s.area.h ≤ 16))
 
-pub each_small : (form : Runs) (canvas : Canvas) (w h : ℕ) → w ≤ 16 → h ≤ 16 → Each is_small (subrects_of form w h canvas)
+pub each_small : (form : RectForm) (canvas : Canvas) (w h : ℕ) → w ≤ 16 → h ≤ 16 → Each is_small (subrects_of form w h canvas)
 each_small OfRows canvas w h lw lh =
     each_run canvas w h is_small (λ x y lx ly. let a = run_within canvas w y x lx in let b = run_some canvas w y x lx in (omega arith, omega arith, b, omega (arith, a), (omega arith, omega arith)))
 each_small Joined canvas w h lw lh =

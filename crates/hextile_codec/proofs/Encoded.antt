@@ -7,8 +7,8 @@ use Rattle.pixel_format.specs.PixelFormat.{PixelFormat, pixel_len}
 use Rattle.raster.specs.declared.encoding.Encoding.TheVariants.{Hextile}
 use Rattle.raster.specs.Screen.{value_at, tile_count}
 use Rattle.raster.specs.Encoding.{raw_bytes, nothing_carried}
-use Rattle.joined_runs.specs.declared.runs.Runs.{Runs}
-use Rattle.joined_runs.specs.declared.runs.Runs.TheVariants.{OfRows, Joined}
+use Rattle.joined_runs.specs.declared.rect_form.RectForm.{RectForm}
+use Rattle.joined_runs.specs.declared.rect_form.RectForm.TheVariants.{OfRows, Joined}
 use Rattle.joined_runs.specs.Joined.{form_of, saves_bytes_as, IsEncodedAs, hextile_bytes_as, shorter}
 use Rattle.joined_runs.proofs.SameTiles.{same_tiles}
 use Rattle.hextile_codec.proofs.Drawings.{raw_len}
@@ -17,7 +17,7 @@ use Rattle.hextile_codec.proofs.Drawings.{raw_len}
 abbrev pub AreAnswered : List ℕ → List ℕ → List ℕ → Option ℕ → Type 0
 AreAnswered bytes old new answer = MatchOption answer (length old ≤ length bytes) (λ n. (n ≡ length bytes) × (n < length old) × (take n new ≡ bytes))
 
-module _ (form : Runs) (format : PixelFormat) (w h : ℕ) (values : List ℕ) where
+module _ (form : RectForm) (format : PixelFormat) (w h : ℕ) (values : List ℕ) where
   abbrev bytes : List ℕ
   bytes = form_of form Hextile format w h values
 

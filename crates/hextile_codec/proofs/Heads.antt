@@ -10,13 +10,13 @@ use Rattle.std.proofs.lemmas.Nat.Bits.{bit_at_xor}
 use Rattle.std.proofs.Math.Nat.{mod-lt, mod-add-div'}
 use Rattle.raster.specs.Screen.{Canvas}
 use Rattle.raster.specs.Encoding.{Subrect}
-use Rattle.joined_runs.specs.declared.runs.Runs.TheVariants.{Joined}
+use Rattle.joined_runs.specs.declared.rect_form.RectForm.TheVariants.{Joined}
 use Rattle.joined_runs.specs.Found.{rows_below}
 use Rattle.joined_runs.specs.Joined.{is_below, with_below, written}
 use Rattle.hextile_codec.specs.declared.runs.Run.{Run}
 use Rattle.hextile_codec.specs.declared.tile_marks.TileMarks.{TileMarks}
 use Rattle.hextile_codec.specs.Bits.{bit_of}
-use Rattle.hextile_codec.specs.Kinds.{subrect_of}
+use Rattle.hextile_codec.specs.TileKinds.{subrect_of}
 use Rattle.hextile_codec.specs.Marks.{runs_of_rows}
 use Rattle.hextile_codec.specs.Places.{AreJoins, joins_at}
 use Rattle.hextile_codec.specs.TileMarks.{AreTileMarks}

@@ -6,13 +6,13 @@ use Rattle.std.proofs.lemmas.List.Elements.{All-nil, All-cons}
 use Rattle.raster.specs.Screen.{Canvas}
 use Rattle.raster.specs.Encoding.{Subrect}
 use Rattle.raster.proofs.Spellings.{Each}
-use Rattle.joined_runs.specs.declared.runs.Runs.TheVariants.{Joined}
+use Rattle.joined_runs.specs.declared.rect_form.RectForm.TheVariants.{Joined}
 use Rattle.joined_runs.specs.Joined.{runs_over, written}
 use Rattle.joined_runs.specs.Found as whole
 use Rattle.raster.proofs.Runs.{each_run_over}
 use Rattle.joined_runs.proofs.WrittenParts.{written_append}
 use Rattle.hextile_codec.specs.declared.runs.Run.{Run}
-use Rattle.hextile_codec.specs.Kinds.{IsRowRun, subrect_of}
+use Rattle.hextile_codec.specs.TileKinds.{IsRowRun, subrect_of}
 
 -- A run is the same in both crates.
 pub same_run : (run : Run) (x y len : ℕ) → x ≡ run.x → y ≡ run.y → len ≡ run.len → run.high ≡ 1 → whole.subrect_of (record { value = run.value; x = x; y = y; len = len }) ≡ subrect_of run

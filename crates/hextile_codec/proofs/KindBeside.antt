@@ -14,9 +14,9 @@ use Rattle.raster.proofs.Values.{each_value}
 use Rattle.joined_runs.specs.Joined.{is_below, joined_runs, most_frequent, runs_over, with_below}
 use Rattle.joined_runs.proofs.JoinedDrawn.{each_joined, joined_agrees, joined_hold}
 use Rattle.joined_runs.proofs.MostFrequent.{most_holds}
-use Rattle.hextile_codec.specs.declared.kind.Kind.{Kind}
-use Rattle.hextile_codec.specs.declared.kind.Kind.TheVariants.{Raw, Plain, TwoColours, Coloured}
-use Rattle.hextile_codec.specs.Kinds.{has_one_value, kind_of}
+use Rattle.hextile_codec.specs.declared.tile_kind.TileKind.{TileKind}
+use Rattle.hextile_codec.specs.declared.tile_kind.TileKind.TheVariants.{Raw, Plain, TwoColours, Coloured}
+use Rattle.hextile_codec.specs.TileKinds.{has_one_value, kind_of}
 
 some_each : {A : Type 0} (P Q R : A → Type 0) (xs : List A) → ((x : A) → P x → Q x → R x) → Each P xs → SomeOf Q xs → SomeOf R xs
 some_each P Q R [] f e s = absurd s
@@ -77,7 +77,7 @@ module _ (canvas : Canvas) (w h : ℕ) where
   abbrev AllWithin : ℕ → ℕ → Type 0
   AllWithin u v = (x y : ℕ) → x < w → y < h → (canvas x y ≡ u) ⊎ (canvas x y ≡ v)
 
-  abbrev value_of : Kind → ℕ
+  abbrev value_of : TileKind → ℕ
   value_of Raw = 0
   value_of Plain = 0
   value_of (TwoColours v) = v
@@ -202,7 +202,7 @@ module _ (canvas : Canvas) (w h : ℕ) where
             by_test true g = absurd cc
             by_test false g = absurd cc
 
-        by_kinds : (j r : Kind) → kind_of joined ≡ j → kind_of rows ≡ r → j ≡ r
+        by_kinds : (j r : TileKind) → kind_of joined ≡ j → kind_of rows ≡ r → j ≡ r
         by_kinds Raw r p q = absurd (never joined p)
         by_kinds (TwoColours v) r p q = absurd (none v p)
         by_kinds Plain r p q =
@@ -221,7 +221,7 @@ module _ (canvas : Canvas) (w h : ℕ) where
     pub same_back : f ≡ b → kind_of joined ≡ kind_of rows
     same_back same = by_kind (kind_of joined) refl
       where
-        by_kind : (j : Kind) → kind_of joined ≡ j → kind_of joined ≡ kind_of rows
+        by_kind : (j : TileKind) → kind_of joined ≡ j → kind_of joined ≡ kind_of rows
         by_kind (TwoColours v) e = e ∙ sym (all_two f rows v beside (rw (← same) at (two_all b joined v over e)))
         by_kind Raw e = not_two (λ v g. let both : Raw ≡ TwoColours v = sym e ∙ g in absurd cc)
         by_kind Plain e = not_two (λ v g. let both : Plain ≡ TwoColours v = sym e ∙ g in absurd cc)

@@ -15,7 +15,7 @@ use Rattle.raster.proofs.Runs.{run_within, front_passes, front_stops}
 use Rattle.hextile_codec.specs.declared.runs.Run.{Run}
 use Rattle.hextile_codec.specs.declared.marking.Marks.{Marks}
 use Rattle.hextile_codec.specs.Bits.{bit_of}
-use Rattle.hextile_codec.specs.Kinds.{subrect_of}
+use Rattle.hextile_codec.specs.TileKinds.{subrect_of}
 use Rattle.hextile_codec.specs.Marks.{AreMarks, runs_of_rows}
 use Rattle.hextile_codec.proofs.LeftBits.{AreLeft, IsNext, listed_behind, next_listed, bit_true, bit_false}
 use Rattle.hextile_codec.proofs.LowestBit.{bit_shift}

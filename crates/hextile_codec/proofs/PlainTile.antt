@@ -9,10 +9,10 @@ use Rattle.raster.proofs.Places.{length_values}
 use Rattle.raster.proofs.Runs.{SomeOf, some_run_over, started}
 use Rattle.raster.proofs.Spellings.{Each, each_map, each_range}
 use Rattle.raster.proofs.Values.{column_in, row_in}
-use Rattle.joined_runs.specs.declared.runs.Runs.TheVariants.{Joined}
+use Rattle.joined_runs.specs.declared.rect_form.RectForm.TheVariants.{Joined}
 use Rattle.joined_runs.specs.Joined.{most_frequent, runs_over, written}
 use Rattle.joined_runs.proofs.MostFrequent.{most_holds}
-use Rattle.hextile_codec.specs.Kinds.{IsFoundAs}
+use Rattle.hextile_codec.specs.TileKinds.{IsFoundAs}
 
 module _ (canvas : Canvas) (w h v : ℕ) (wide : 0 < w) (high : 0 < h) (none : runs_over canvas v w h ≡ []) where
   shows_one : (x y : ℕ) → x < w → y < h → canvas x y ≡ v

@@ -9,7 +9,7 @@ use Rattle.raster.specs.Encoding.{begins_run, run_from, runs_of_row}
 use Rattle.raster.proofs.Runs.{run_some, run_within}
 use Rattle.raster.proofs.RowScan.{IsFresh, runs_behind, front_of_list, fresh_behind, found_other, found_background}
 use Rattle.hextile_codec.specs.declared.runs.Run.{Run}
-use Rattle.hextile_codec.specs.Kinds.{subrect_of}
+use Rattle.hextile_codec.specs.TileKinds.{subrect_of}
 use Rattle.raster.specs.RowShown.{row_shows}
 
 -- The run at x, found in what is left of the row.

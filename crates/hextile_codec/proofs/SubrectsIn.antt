@@ -7,11 +7,11 @@ use Rattle.std.proofs.lemmas.List.Elements.{All-nil, All-cons}
 use Rattle.raster.specs.Encoding.{place_bytes}
 use Rattle.raster.specs.Screen.{Canvas}
 use Rattle.raster.proofs.Spellings.{Each}
-use Rattle.joined_runs.specs.declared.runs.Runs.{Runs}
+use Rattle.joined_runs.specs.declared.rect_form.RectForm.{RectForm}
 use Rattle.joined_runs.specs.Joined.{subrects_of}
 use Rattle.joined_runs.specs.Tinted.{tinted_subrect}
 use Rattle.hextile_codec.specs.declared.runs.Run.{Run}
-use Rattle.hextile_codec.specs.Kinds.{IsSmall, subrect_of}
+use Rattle.hextile_codec.specs.TileKinds.{IsSmall, subrect_of}
 use Rattle.hextile_codec.specs.Subrects.{subrect_in}
 use Rattle.hextile_codec.proofs.Drawings.{each_small, is_small}
 
@@ -33,5 +33,5 @@ all_small format is_colour [] e = All-nil IsSmall
 all_small format is_colour (r ∷ rs) e = All-cons IsSmall r rs (record { x = e.0.0; y = e.0.1; some = e.0.2; most = e.0.3; high = e.0.4 }) (all_small format is_colour rs e.1)
 
 -- The runs of a tile's subrectangles lie in the tile.
-pub small_in : (form : Runs) (canvas : Canvas) (w h : ℕ) (format : PixelFormat) (is_colour : Bool) (rs : List Run) → w ≤ 16 → h ≤ 16 → map (subrect_in format is_colour) rs ≡ subrects_of form w h canvas → All IsSmall rs
+pub small_in : (form : RectForm) (canvas : Canvas) (w h : ℕ) (format : PixelFormat) (is_colour : Bool) (rs : List Run) → w ≤ 16 → h ≤ 16 → map (subrect_in format is_colour) rs ≡ subrects_of form w h canvas → All IsSmall rs
 small_in form canvas w h format is_colour rs lw lh e = all_small format is_colour rs (rw e (each_small form canvas w h lw lh))

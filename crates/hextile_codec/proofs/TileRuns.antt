@@ -9,7 +9,7 @@ use Rattle.raster.specs.Screen.{Canvas}
 use Rattle.raster.specs.Encoding.{Subrect, runs_of_row}
 use Rattle.joined_runs.specs.Joined.{runs_over}
 use Rattle.hextile_codec.specs.declared.runs.Run.{Run}
-use Rattle.hextile_codec.specs.Kinds.{subrect_of, has_one_value}
+use Rattle.hextile_codec.specs.TileKinds.{subrect_of, has_one_value}
 use Rattle.raster.specs.RowShown.{row_shows}
 use Rattle.hextile_codec.specs.Marks.{runs_of_rows}
 use Rattle.raster.proofs.AreaRows.{row_same}

@@ -6,12 +6,12 @@ use Rattle.pixel_format.specs.PixelFormat.{PixelFormat}
 use Rattle.raster.specs.declared.rect.Rect.{Rect}
 use Rattle.raster.specs.Screen.{Canvas, IsWithin, values_of, part_of, tile_count, tile_rect}
 use Rattle.raster.specs.Encoding.{Subrect, Carried, raw_bytes, drawn_bytes}
-use Rattle.joined_runs.specs.declared.runs.Runs.{Runs}
+use Rattle.joined_runs.specs.declared.rect_form.RectForm.{RectForm}
 use Rattle.joined_runs.specs.Joined.{subrects_of, tile_bytes_as, tiles_from_as}
 use Rattle.raster.proofs.HextileSpelled.{IsTile, tile_lies}
-use Rattle.hextile_codec.specs.declared.kind.Kind.{Kind}
-use Rattle.hextile_codec.specs.declared.kind.Kind.TheVariants.{Raw, Plain, TwoColours, Coloured}
-use Rattle.hextile_codec.specs.Kinds.{kind_of, IsTileSize, IsWrittenAs}
+use Rattle.hextile_codec.specs.declared.tile_kind.TileKind.{TileKind}
+use Rattle.hextile_codec.specs.declared.tile_kind.TileKind.TheVariants.{Raw, Plain, TwoColours, Coloured}
+use Rattle.hextile_codec.specs.TileKinds.{kind_of, IsTileSize, IsWrittenAs}
 
 -- Tile k of a rectangle, which is at most as high and wide as a tile, and lies in it.
 pub record IsTileOf (w h k : ℕ) (tile : Rect) : Type 0 where
@@ -37,7 +37,7 @@ tile_area w h size = let area : w * h ≤ 16 * 16 = mul-le-mul size.w_most size.
 pub tile_inside : (w h len : ℕ) (tile : Rect) → IsTile w h tile → len ≡ w * h → (tile.y + tile.h) * w ≤ len
 tile_inside w h len tile lies e = let p : (tile.y + tile.h) * w ≤ h * w = mul-le-mul_right w lies.down in omega (arith, p)
 
-module _ (form : Runs) (format : PixelFormat) (w h : ℕ) (canvas : Canvas) where
+module _ (form : RectForm) (format : PixelFormat) (w h : ℕ) (canvas : Canvas) where
   abbrev pub rest_from : Carried → ℕ → List ℕ
   rest_from before k = tiles_from_as form format w h canvas before k (tile_count w h - k)
 
@@ -77,14 +77,14 @@ module _ (form : Runs) (format : PixelFormat) (w h : ℕ) (canvas : Canvas) wher
       sym (append-nil (take used out)) ∙ (ap (λ t. take used out ++ t) (sym (none_left before k le)) ∙ so)
 
 -- What a choice that isn't Raw says.
-pub says_drawn : (form : Runs) (format : PixelFormat) (before : Carried) (w h : ℕ) (canvas : Canvas) (found : List Subrect) (background : ℕ) (kind : Kind) (bytes : List ℕ) → (kind ≡ Raw → ⊥) → IsWrittenAs form format before w h canvas found background kind bytes
+pub says_drawn : (form : RectForm) (format : PixelFormat) (before : Carried) (w h : ℕ) (canvas : Canvas) (found : List Subrect) (background : ℕ) (kind : TileKind) (bytes : List ℕ) → (kind ≡ Raw → ⊥) → IsWrittenAs form format before w h canvas found background kind bytes
     → (bytes ≡ drawn_bytes format before background found) × (kind ≡ kind_of found) × (found ≡ subrects_of form w h canvas)
 says_drawn form format before w h canvas found background Raw bytes not_raw s = absurd (not_raw refl)
 says_drawn form format before w h canvas found background Plain bytes not_raw s = s
 says_drawn form format before w h canvas found background (TwoColours v) bytes not_raw s = s
 says_drawn form format before w h canvas found background Coloured bytes not_raw s = s
 
-pub says_raw : (form : Runs) (format : PixelFormat) (before : Carried) (w h : ℕ) (canvas : Canvas) (found : List Subrect) (background : ℕ) (kind : Kind) (bytes : List ℕ) → kind ≡ Raw → IsWrittenAs form format before w h canvas found background kind bytes
+pub says_raw : (form : RectForm) (format : PixelFormat) (before : Carried) (w h : ℕ) (canvas : Canvas) (found : List Subrect) (background : ℕ) (kind : TileKind) (bytes : List ℕ) → kind ≡ Raw → IsWrittenAs form format before w h canvas found background kind bytes
     → bytes ≡ 1 ∷ raw_bytes format (values_of w h canvas)
 says_raw form format before w h canvas found background Raw bytes e s = s
 says_raw form format before w h canvas found background Plain bytes e s = absurd cc

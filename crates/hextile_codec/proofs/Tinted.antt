@@ -8,15 +8,15 @@ use Rattle.pixel_format.specs.PixelFormat.{PixelFormat, tint}
 use Rattle.raster.specs.Screen.{Canvas}
 use Rattle.raster.specs.Encoding.{Subrect}
 use Rattle.raster.proofs.Spellings.{Each}
-use Rattle.joined_runs.specs.declared.runs.Runs.{Runs}
+use Rattle.joined_runs.specs.declared.rect_form.RectForm.{RectForm}
 use Rattle.joined_runs.specs.Joined.{subrects_of}
 use Rattle.joined_runs.specs.Tinted.{ShowsApart, tinted_subrect}
 use Rattle.joined_runs.proofs.Recoloured.{background_tinted, same_test, subrects_tinted, colours_apart_in}
-use Rattle.hextile_codec.specs.declared.kind.Head.{Head}
-use Rattle.hextile_codec.specs.declared.kind.Kind.TheVariants.{TwoColours, Coloured}
+use Rattle.hextile_codec.specs.declared.tile_kind.Head.{Head}
+use Rattle.hextile_codec.specs.declared.tile_kind.TileKind.TheVariants.{TwoColours, Coloured}
 use Rattle.hextile_codec.specs.Apart.{tinted_head, tinted_kind}
 use Rattle.hextile_codec.specs.Heads.{IsHeadOf}
-use Rattle.hextile_codec.specs.Kinds.{has_one_value, kind_of}
+use Rattle.hextile_codec.specs.TileKinds.{has_one_value, kind_of}
 
 all_same : (format : PixelFormat) (value : ℕ) (ss : List Subrect) → Each (λ t. tint format t.value ≡ tint format value → t.value ≡ value) ss
     → list_all (λ t. t.value == tint format value) (map (tinted_subrect format) ss) ≡ list_all (λ t. t.value == value) ss
@@ -38,10 +38,10 @@ kind_same format (s ∷ ss) h =
     by_kind true value = refl
     by_kind false value = refl
 
-pub kind_tinted : (form : Runs) (format : PixelFormat) (w h : ℕ) (colours shown : Canvas) → ShowsApart format w h colours shown → kind_of (subrects_of form w h shown) ≡ tinted_kind format (kind_of (subrects_of form w h colours))
+pub kind_tinted : (form : RectForm) (format : PixelFormat) (w h : ℕ) (colours shown : Canvas) → ShowsApart format w h colours shown → kind_of (subrects_of form w h shown) ≡ tinted_kind format (kind_of (subrects_of form w h colours))
 kind_tinted form format w h colours shown is = ap kind_of (subrects_tinted format w h colours shown is form) ∙ kind_same format (subrects_of form w h colours) (colours_apart_in format w h colours shown is form)
 
-pub head_tinted : (form : Runs) (format : PixelFormat) (w h : ℕ) (colours shown : Canvas) (head : Head) → ShowsApart format w h colours shown → IsHeadOf form w h colours head → IsHeadOf form w h shown (tinted_head format head)
+pub head_tinted : (form : RectForm) (format : PixelFormat) (w h : ℕ) (colours shown : Canvas) (head : Head) → ShowsApart format w h colours shown → IsHeadOf form w h colours head → IsHeadOf form w h shown (tinted_head format head)
 head_tinted form format w h colours shown head is of =
     record {
       background = ap (tint format) of.background ∙ sym (background_tinted format w h colours shown is form);

@@ -1,11 +1,11 @@
 -- A tile's kind and its head by its colours, and by their pixel values in a format that keeps them apart.
 use Rattle.pixel_format.specs.PixelFormat.{PixelFormat, tint}
-use Rattle.hextile_codec.specs.declared.kind.Head.{Head}
-use Rattle.hextile_codec.specs.declared.kind.Kind.{Kind}
-use Rattle.hextile_codec.specs.declared.kind.Kind.TheVariants.{Raw, Plain, TwoColours, Coloured}
+use Rattle.hextile_codec.specs.declared.tile_kind.Head.{Head}
+use Rattle.hextile_codec.specs.declared.tile_kind.TileKind.{TileKind}
+use Rattle.hextile_codec.specs.declared.tile_kind.TileKind.TheVariants.{Raw, Plain, TwoColours, Coloured}
 
 -- A kind with its colour as a pixel value.
-abbrev pub tinted_kind : PixelFormat → Kind → Kind
+abbrev pub tinted_kind : PixelFormat → TileKind → TileKind
 tinted_kind format Raw = Raw
 tinted_kind format Plain = Plain
 tinted_kind format (TwoColours foreground) = TwoColours (tint format foreground)

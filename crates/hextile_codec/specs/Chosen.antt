@@ -3,12 +3,12 @@ use Rattle.std.specs.Prelude.{◌≡◌, ℕ, zero, suc, ◌<◌, List, length, 
 use Rattle.pixel_format.specs.PixelFormat.{PixelFormat}
 use Rattle.raster.specs.Screen.{Canvas, part_of, tile_rect}
 use Rattle.raster.specs.Encoding.{Carried, nothing_carried}
-use Rattle.joined_runs.specs.declared.runs.Runs.TheVariants.{Joined}
+use Rattle.joined_runs.specs.declared.rect_form.RectForm.TheVariants.{Joined}
 use Rattle.joined_runs.specs.Joined.{tile_bytes_as}
 use Rattle.joined_runs.specs.Tinted.{tinted_subrect}
 use Rattle.hextile_codec.specs.declared.kept.TileForm.{TileForm}
-use Rattle.hextile_codec.specs.declared.kind.TileChoice.{TileChoice}
-use Rattle.hextile_codec.specs.Kinds.{IsChosen, subrect_of}
+use Rattle.hextile_codec.specs.declared.tile_kind.TileChoice.{TileChoice}
+use Rattle.hextile_codec.specs.TileKinds.{IsChosen, subrect_of}
 
 -- What the tiles before number k of a rectangle of w by h leave it, as joined runs.
 abbrev pub carried_to : PixelFormat → ℕ → ℕ → Canvas → ℕ → Carried

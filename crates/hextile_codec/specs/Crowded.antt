@@ -2,7 +2,7 @@
 use Rattle.std.specs.Prelude.{ℕ, zero, suc, ◌+◌, ◌-◌, ◌≤◌, ◌==◌, Bool, false, ◌&&◌, ◌||◌, not, List, filter, length, slice_index}
 use Rattle.std.specs.List.{range_with_len}
 use Rattle.raster.specs.Screen.{Canvas}
-use Rattle.joined_runs.specs.declared.runs.Runs.TheVariants.{Joined}
+use Rattle.joined_runs.specs.declared.rect_form.RectForm.TheVariants.{Joined}
 use Rattle.joined_runs.specs.Joined.{written}
 use Rattle.hextile_codec.specs.Marks.{runs_of_rows}
 

@@ -2,15 +2,15 @@
 use Rattle.std.specs.Prelude.{◌≡◌, ℕ, List, length, Option, MatchOption}
 use Rattle.raster.specs.Screen.{Canvas}
 use Rattle.raster.specs.Encoding.{Subrect}
-use Rattle.joined_runs.specs.declared.runs.Runs.{Runs}
-use Rattle.joined_runs.specs.declared.runs.Runs.TheVariants.{OfRows, Joined}
+use Rattle.joined_runs.specs.declared.rect_form.RectForm.{RectForm}
+use Rattle.joined_runs.specs.declared.rect_form.RectForm.TheVariants.{OfRows, Joined}
 use Rattle.joined_runs.specs.Joined.{background_of, subrects_of}
-use Rattle.hextile_codec.specs.declared.kind.Head.{Head}
+use Rattle.hextile_codec.specs.declared.tile_kind.Head.{Head}
 use Rattle.hextile_codec.specs.declared.joining.Backgrounds.{Backgrounds}
-use Rattle.hextile_codec.specs.Kinds.{kind_of, HasMany, IsFoundAs}
+use Rattle.hextile_codec.specs.TileKinds.{kind_of, HasMany, IsFoundAs}
 
 -- The head of a tile in a form.
-pub record IsHeadOf (form : Runs) (w h : ℕ) (canvas : Canvas) (head : Head) : Type 0 where
+pub record IsHeadOf (form : RectForm) (w h : ℕ) (canvas : Canvas) (head : Head) : Type 0 where
   pub background : head.background ≡ background_of form w h canvas
   pub kind : head.kind ≡ kind_of (subrects_of form w h canvas)
   pub count : head.count ≡ length (subrects_of form w h canvas)

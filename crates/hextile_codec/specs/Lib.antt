@@ -3,7 +3,7 @@ pub mod Kept
 pub mod Apart
 pub mod Ahead
 pub mod Carried
-pub mod Kinds
+pub mod TileKinds
 pub mod Bits
 pub mod Marks
 pub mod Crowded

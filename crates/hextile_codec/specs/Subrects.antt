@@ -4,7 +4,7 @@ use Rattle.pixel_format.specs.PixelFormat.{PixelFormat, tint}
 use Rattle.raster.specs.Encoding.{Subrect}
 use Rattle.hextile_codec.specs.declared.put.Subrects.{Subrects}
 use Rattle.hextile_codec.specs.declared.runs.Run.{Run}
-use Rattle.hextile_codec.specs.Kinds.{subrect_of}
+use Rattle.hextile_codec.specs.TileKinds.{subrect_of}
 
 -- A run as a subrectangle of its value or, where that is a colour, of the colour's pixel value.
 abbrev pub subrect_in : PixelFormat → Bool → Run → Subrect

@@ -2,15 +2,15 @@
 
 ghost use Rattle.std.specs.Prelude.{◌≡◌, ℕ, ◌⊎◌, ◌<◌, ◌^◌, None, length, slice_index_or, IfNone, IfSome};
 ghost use Rattle.raster.specs.Screen.{Canvas, tile_count};
-ghost use Rattle.joined_runs.specs.declared.runs.Runs.TheVariants.{OfRows, Joined};
+ghost use Rattle.joined_runs.specs.declared.rect_form.RectForm.TheVariants.{OfRows, Joined};
 ghost use Rattle.joined_runs.specs.Joined.{hextile_bytes_as};
 ghost use Rattle.hextile_codec.specs.Chosen.{AreChosenBy};
 ghost use Rattle.hextile_codec.specs.Kept.{AreKept};
 ghost use Rattle.hextile_codec.specs.Sources.{shows};
 
 use crate::kept::{TileForm, form_at};
-use crate::kind::{Said, TileChoice};
 use crate::source::PixelSource;
+use crate::tile_kind::{Said, TileChoice};
 use arrayvec::ArrayVec;
 use pixel_format::Format;
 use raster::{tile_count, tile_rect};

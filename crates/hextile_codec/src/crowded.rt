@@ -3,9 +3,9 @@
 ghost use Rattle.std.specs.Prelude.{◌≡◌, ℕ, ◌+◌, ◌-◌, ◌*◌, ◌<◌, ◌≤◌, ◌==◌, ◌&&◌, filter, length, slice_index, IsTrue};
 ghost use Rattle.std.specs.List.{range_with_len};
 ghost use Rattle.raster.specs.Screen.{part_of, value_at};
-ghost use Rattle.joined_runs.specs.declared.runs.Runs.TheVariants.{OfRows, Joined};
+ghost use Rattle.joined_runs.specs.declared.rect_form.RectForm.TheVariants.{OfRows, Joined};
 ghost use Rattle.hextile_codec.specs.Crowded.{is_corner, is_seen, shown_in, AreBegun};
-ghost use Rattle.hextile_codec.specs.Kinds.{HasMany};
+ghost use Rattle.hextile_codec.specs.TileKinds.{HasMany};
 ghost use Rattle.hextile_codec.specs.Marks.{LiesAmong};
 
 use crate::marking::{differences, turned};

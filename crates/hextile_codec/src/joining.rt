@@ -3,10 +3,10 @@
 ghost use Rattle.std.specs.Prelude.{◌≡◌, ◌+◌, ◌*◌, ◌<◌, ◌≤◌, ◌^◌, length, map};
 ghost use Rattle.std.specs.List.{All};
 ghost use Rattle.raster.specs.Screen.{Canvas, value_at, part_of};
-ghost use Rattle.joined_runs.specs.declared.runs.Runs.TheVariants.{OfRows, Joined};
+ghost use Rattle.joined_runs.specs.declared.rect_form.RectForm.TheVariants.{OfRows, Joined};
 ghost use Rattle.joined_runs.specs.Joined.{written};
 ghost use Rattle.hextile_codec.specs.Heads.{AreFound, AreSearched};
-ghost use Rattle.hextile_codec.specs.Kinds.{IsRowRun, IsSearched, subrect_of};
+ghost use Rattle.hextile_codec.specs.TileKinds.{IsRowRun, IsSearched, subrect_of};
 ghost use Rattle.hextile_codec.specs.Marks.{LiesAmong};
 
 use crate::crowded::is_crowded;
@@ -14,7 +14,7 @@ use crate::frequent::{Pixels, find_most, find_most_marked};
 use crate::listing::list_joined;
 use crate::runs::{Found, Run, find_each_row, find_runs, is_plain};
 use crate::tile_marks::{TileMarks, find_changes, find_others};
-use joined_runs::{RowRun, Runs, height};
+use joined_runs::{RectForm, RowRun, height};
 use raster::{Rect, TILE_SIDE};
 
 /// What is found of one tile, and the room that this takes.
@@ -53,7 +53,7 @@ fn join(values: &[u32], w: usize, tile: &Rect, runs: &[Run], joined: &mut Found)
             y: usize::from(run.y),
             len: usize::from(run.len),
         };
-        if let Some(high) = height(Runs::Joined, values, w, tile, &row_run) {
+        if let Some(high) = height(RectForm::Joined, values, w, tile, &row_run) {
             joined.push(Run {
                 high: high as u8,
                 ..*run

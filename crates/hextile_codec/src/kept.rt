@@ -3,22 +3,22 @@
 ghost use Rattle.std.specs.Prelude.{◌≡◌, ℕ, ◌<◌, ◌≤◌, IfNone, IfSome, length, map, None, Some, slice_index_or};
 ghost use Rattle.pixel_format.specs.PixelFormat.{PixelFormat};
 ghost use Rattle.raster.specs.Screen.{Canvas, value_at, part_of};
-ghost use Rattle.joined_runs.specs.declared.runs.Runs.TheVariants.{OfRows, Joined};
+ghost use Rattle.joined_runs.specs.declared.rect_form.RectForm.TheVariants.{OfRows, Joined};
 ghost use Rattle.joined_runs.specs.Joined.{subrects_of};
 ghost use Rattle.joined_runs.specs.Tinted.{ShowsApart, tinted_subrect};
 ghost use Rattle.hextile_codec.specs.Apart.{tinted_head, tinted_kind};
 ghost use Rattle.hextile_codec.specs.Carried.{carried_by};
 ghost use Rattle.hextile_codec.specs.Heads.{IsHeadOf};
 ghost use Rattle.hextile_codec.specs.Kept.{AreColours, FormStands};
-ghost use Rattle.hextile_codec.specs.Kinds.{IsChosen, HasMany, subrect_of};
+ghost use Rattle.hextile_codec.specs.TileKinds.{IsChosen, HasMany, subrect_of};
 ghost use Rattle.hextile_codec.specs.Marks.{LiesAmong};
 ghost use Rattle.hextile_codec.specs.Subrects.{subrects_in};
 
 use crate::coloured::is_coloured;
 use crate::joining::{TileRoom, find_both};
-use crate::kind::{Choices, Head, Heads, Kind, Said, heads_of};
 use crate::put::Subrects;
 use crate::runs::{Run, TILE_AREA};
+use crate::tile_kind::{Choices, Head, Heads, Said, TileKind, heads_of};
 use arrayvec::ArrayVec;
 use pixel_format::Format;
 use raster::{Rect, TILE_SIDE};
@@ -34,13 +34,13 @@ pub struct TileForm {
     runs: ArrayVec<Run, MOST_KEPT>,
 }
 
-impl Kind {
+impl TileKind {
     /// A kind of colours as one of their pixel values.
-    fn tinted(self, format: &Format) -> Kind
+    fn tinted(self, format: &Format) -> TileKind
         ensures { result ≡ tinted_kind format.now self }
     {
         match self {
-            Kind::TwoColours(foreground) => Kind::TwoColours(format.tint(foreground)),
+            TileKind::TwoColours(foreground) => TileKind::TwoColours(format.tint(foreground)),
             kind => kind,
         }
     }

@@ -17,7 +17,6 @@ mod frequent;
 mod head;
 mod joining;
 mod kept;
-mod kind;
 mod law;
 mod listing;
 mod marking;
@@ -32,6 +31,7 @@ mod source;
 mod stage;
 mod subrects;
 mod tile;
+mod tile_kind;
 mod tile_marks;
 mod writing;
 

@@ -4,11 +4,11 @@ ghost use Rattle.std.specs.Prelude.{◌≡◌, ℕ, ◌+◌, ◌*◌, ◌<◌, �
 ghost use Rattle.arrayvec.specs.ArrayVec.{array_vec_len};
 ghost use Rattle.raster.specs.Screen.{Canvas, value_at, part_of};
 ghost use Rattle.raster.specs.Encoding.{begins_run, run_from};
-ghost use Rattle.joined_runs.specs.declared.runs.Runs.TheVariants.{Joined};
+ghost use Rattle.joined_runs.specs.declared.rect_form.RectForm.TheVariants.{Joined};
 ghost use Rattle.joined_runs.specs.Found.{rows_below};
 ghost use Rattle.joined_runs.specs.Joined.{joined_runs, written};
 ghost use Rattle.hextile_codec.specs.Breaks.{mark_at};
-ghost use Rattle.hextile_codec.specs.Kinds.{subrect_of};
+ghost use Rattle.hextile_codec.specs.TileKinds.{subrect_of};
 ghost use Rattle.hextile_codec.specs.Marks.{LiesAmong, runs_of_rows};
 ghost use Rattle.hextile_codec.specs.Places.{AreJoins};
 ghost use Rattle.hextile_codec.specs.TileMarks.{AreTileMarks};

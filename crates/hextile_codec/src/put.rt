@@ -7,15 +7,15 @@ ghost use Rattle.joined_runs.specs.Tinted.{tinted_subrect};
 ghost use Rattle.raster.specs.Screen.{value_at, part_of, values_of};
 ghost use Rattle.raster.specs.Encoding.{drawn_bytes, unless_said, place_bytes, coloured_bytes, raw_bytes, is_said};
 ghost use Rattle.hextile_codec.specs.Carried.{carried_by};
-ghost use Rattle.hextile_codec.specs.Kinds.{IsSmall, subrect_of, kind_of, drawn_len};
+ghost use Rattle.hextile_codec.specs.TileKinds.{IsSmall, subrect_of, kind_of, drawn_len};
 ghost use Rattle.hextile_codec.specs.Subrects.{subrect_in, subrects_in};
 
 use crate::colours::{Colours, is_said};
-use crate::kind::{Kind, TileChoice};
 use crate::mask::{
     ANY_SUBRECTS, BACKGROUND_SPECIFIED, FOREGROUND_SPECIFIED, RAW, SUBRECTS_COLOURED,
 };
 use crate::runs::Run;
+use crate::tile_kind::{TileChoice, TileKind};
 use pixel_format::Format;
 use raster::{Rect, TILE_SIDE};
 
@@ -196,12 +196,12 @@ fn put_two_colours(
 )
     requires small { All IsSmall subrects.now.runs.now }
     requires few { length subrects.now.runs.now ≤ 255 }
-    requires is { kind_of (subrects_in format.now subrects.now) ≡ Kind.TwoColours foreground }
+    requires is { kind_of (subrects_in format.now subrects.now) ≡ TileKind.TwoColours foreground }
     requires room { used + drawn_len format.now (carried_by said.now)
-        background (Kind.TwoColours foreground) (length subrects.now.runs.now)
+        background (TileKind.TwoColours foreground) (length subrects.now.runs.now)
         ≤ length out.old }
     ensures { take (used + drawn_len format.now (carried_by said.now) background
-        (Kind.TwoColours foreground) (length subrects.now.runs.now)) out.new
+        (TileKind.TwoColours foreground) (length subrects.now.runs.now)) out.new
         ≡ take used out.old ++ drawn_bytes format.now (carried_by said.now) background
         (subrects_in format.now subrects.now) }
 {
@@ -229,12 +229,12 @@ fn put_coloured(
 )
     requires small { All IsSmall subrects.now.runs.now }
     requires few { length subrects.now.runs.now ≤ 255 }
-    requires is { kind_of (subrects_in format.now subrects.now) ≡ Kind.Coloured }
+    requires is { kind_of (subrects_in format.now subrects.now) ≡ TileKind.Coloured }
     requires room { used + drawn_len format.now (carried_by said.now)
-        background Kind.Coloured (length subrects.now.runs.now)
+        background TileKind.Coloured (length subrects.now.runs.now)
         ≤ length out.old }
     ensures { take (used + drawn_len format.now (carried_by said.now)
-        background Kind.Coloured (length subrects.now.runs.now)) out.new
+        background TileKind.Coloured (length subrects.now.runs.now)) out.new
         ≡ take used out.old ++ drawn_bytes format.now (carried_by said.now) background
         (subrects_in format.now subrects.now) }
 {
@@ -267,10 +267,10 @@ pub fn put_drawn(
 {
     let background = choice.background;
     match choice.kind {
-        Kind::TwoColours(foreground) => {
+        TileKind::TwoColours(foreground) => {
             put_two_colours(format, said, background, foreground, subrects, out, used)
         }
-        Kind::Coloured => put_coloured(format, said, background, subrects, out, used),
+        TileKind::Coloured => put_coloured(format, said, background, subrects, out, used),
         _ => {
             let at = put_byte(background_bit(said, background), out, used);
             put_colour(format, said.background, background, out, at);

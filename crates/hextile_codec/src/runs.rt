@@ -7,7 +7,7 @@ ghost use Rattle.raster.specs.Screen.{value_at, part_of};
 ghost use Rattle.raster.specs.Encoding.{runs_of_row};
 ghost use Rattle.joined_runs.specs.Joined.{runs_over};
 ghost use Rattle.raster.specs.RowShown.{row_shows};
-ghost use Rattle.hextile_codec.specs.Kinds.{subrect_of, has_one_value};
+ghost use Rattle.hextile_codec.specs.TileKinds.{subrect_of, has_one_value};
 ghost use Rattle.hextile_codec.specs.Marks.{AreMarks, LiesAmong, runs_of_rows};
 
 use crate::marking::{Marks, mark_rows};

@@ -3,22 +3,22 @@
 ghost use Rattle.std.specs.Prelude.{◌≡◌, ◌+◌, ◌*◌, ◌≤◌, ◌++◌, length, map, take, IfNone, IfSome};
 ghost use Rattle.pixel_format.specs.PixelFormat.{PixelFormat};
 ghost use Rattle.raster.specs.Screen.{Canvas, IsWithin, part_of};
-ghost use Rattle.joined_runs.specs.declared.runs.Runs.{Runs};
-ghost use Rattle.joined_runs.specs.declared.runs.Runs.TheVariants.{OfRows, Joined};
+ghost use Rattle.joined_runs.specs.declared.rect_form.RectForm.{RectForm};
+ghost use Rattle.joined_runs.specs.declared.rect_form.RectForm.TheVariants.{OfRows, Joined};
 ghost use Rattle.joined_runs.specs.Joined.{subrects_of, tile_bytes_as};
 ghost use Rattle.joined_runs.specs.Tinted.{ShowsApart, tinted_subrect};
 ghost use Rattle.hextile_codec.specs.Carried.{carried_by};
 ghost use Rattle.hextile_codec.specs.Kept.{FormStands};
-ghost use Rattle.hextile_codec.specs.Kinds.{IsChosen, IsTileSize, leaves_of, subrect_of};
+ghost use Rattle.hextile_codec.specs.TileKinds.{IsChosen, IsTileSize, leaves_of, subrect_of};
 ghost use Rattle.hextile_codec.specs.Sources.{SourceStands, shows};
 ghost use Rattle.hextile_codec.specs.Subrects.{subrects_in};
 
 use crate::colours::Colours;
 use crate::joining::TileRoom;
 use crate::kept::TileForm;
-use crate::kind::{Choices, Said, TileChoice, choose, choose_both};
 use crate::put::{Subrects, put_drawn, put_raw};
 use crate::source::PixelSource;
+use crate::tile_kind::{Choices, Said, TileChoice, choose, choose_both};
 use pixel_format::Format;
 use raster::Rect;
 
@@ -119,12 +119,12 @@ pub fn put_tile(
     requires within { IsWithin tile.now source.now.area.w source.now.area.h }
     requires size { IsTileSize tile.now.w tile.now.h }
     requires values { length values.old ≡ tile.now.w * tile.now.h }
-    requires chosen { (form : Runs)
+    requires chosen { (form : RectForm)
         × IsChosen form format.now (carried_by said.now)
         tile.now.w tile.now.h (part_of tile.now (shows format.now source.now))
         (subrects_in format.now subrects.now) choice.now }
     requires room { used + choice.now.len ≤ length out.old }
-    ensures { (form : Runs)
+    ensures { (form : RectForm)
         → IsChosen form format.now (carried_by said.now)
         tile.now.w tile.now.h (part_of tile.now (shows format.now source.now))
         (subrects_in format.now subrects.now) choice.now

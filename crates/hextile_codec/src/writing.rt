@@ -5,7 +5,7 @@ ghost use Rattle.pixel_format.specs.PixelFormat.{pixel_len};
 ghost use Rattle.raster.specs.declared.encoding.Encoding.TheVariants.{Hextile};
 ghost use Rattle.raster.specs.Screen.{tile_count, value_at, values_of};
 ghost use Rattle.raster.specs.Encoded.{IsEncoded};
-ghost use Rattle.joined_runs.specs.declared.runs.Runs.TheVariants.{OfRows, Joined};
+ghost use Rattle.joined_runs.specs.declared.rect_form.RectForm.TheVariants.{OfRows, Joined};
 ghost use Rattle.joined_runs.specs.Joined.{IsEncodedAs, hextile_bytes_as, shorter};
 ghost use Rattle.hextile_codec.specs.Chosen.{AreChosenBy};
 ghost use Rattle.hextile_codec.specs.Kept.{AreKept};
@@ -15,12 +15,12 @@ use crate::chosen::{Chosen, choose_kept};
 use crate::colours::Colours;
 use crate::joining::TileRoom;
 use crate::kept::{TileForm, form_at};
-use crate::kind::{Said, TileChoice};
 use crate::put::Subrects;
 use crate::runs::TILE_AREA;
 use crate::source::PixelSource;
 use crate::tile::{choose_rows, choose_tile, joined_subrects, put_tile};
-use joined_runs::Runs;
+use crate::tile_kind::{Said, TileChoice};
+use joined_runs::RectForm;
 use pixel_format::Format;
 use raster::{Rect, tile_count, tile_rect};
 
@@ -201,7 +201,7 @@ fn put_shorter(
 /// `None` where Raw has no more bytes, as soon as it shows; what `out` holds then is not said. `out` has room for the
 /// bytes of Raw.
 pub fn encode_from(
-    form: Runs,
+    form: RectForm,
     source: &PixelSource,
     forms: &[Option<TileForm>],
     format: &Format,
@@ -220,14 +220,14 @@ pub fn encode_from(
         return None;
     }
     match form {
-        Runs::OfRows => put_rows(source, format, &mut out[..raw]),
-        Runs::Joined => put_shorter(source, forms, format, &mut out[..raw]),
+        RectForm::OfRows => put_rows(source, format, &mut out[..raw]),
+        RectForm::Joined => put_shorter(source, forms, format, &mut out[..raw]),
     }
 }
 
 /// Writes pixel values in Hextile in a form, which are `w` by `h`, row after row; as `encode_from` otherwise.
 pub fn encode_as(
-    form: Runs,
+    form: RectForm,
     values: &[u32],
     w: u64,
     h: u64,
@@ -258,5 +258,5 @@ pub fn encode(values: &[u32], w: u64, h: u64, format: &Format, out: &mut [u8]) -
     requires room { length values.now * pixel_len format.now ≤ length out.old }
     ensures { IsEncoded Hextile format.now w h values.now out.new result }
 {
-    encode_as(Runs::OfRows, values, w, h, format, out)
+    encode_as(RectForm::OfRows, values, w, h, format, out)
 }

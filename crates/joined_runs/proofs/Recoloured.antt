@@ -14,8 +14,8 @@ use Rattle.raster.specs.Encoding.{Subrect, begins_run, run_from, runs_of_row}
 use Rattle.raster.proofs.Spellings.{Each, each_map, each_range, each_weaker, each_filter}
 use Rattle.raster.proofs.Values.{column_in, row_in}
 use Rattle.raster.proofs.Runs.{each_run_over}
-use Rattle.joined_runs.specs.declared.runs.Runs.{Runs}
-use Rattle.joined_runs.specs.declared.runs.Runs.TheVariants.{OfRows, Joined}
+use Rattle.joined_runs.specs.declared.rect_form.RectForm.{RectForm}
+use Rattle.joined_runs.specs.declared.rect_form.RectForm.TheVariants.{OfRows, Joined}
 use Rattle.joined_runs.specs.Joined.{count_of, is_most_frequent, most_frequent, runs_over, stands_in, is_below, with_below, joined_runs, background_of, subrects_of}
 use Rattle.joined_runs.specs.Tinted.{ShowsApart, tinted_subrect}
 use Rattle.joined_runs.proofs.JoinedDrawn.{each_joined}
@@ -190,11 +190,11 @@ module _ (f : ℕ → ℕ) (w h : ℕ) (canvas shown : Canvas) (apart : IsApart 
   values_apart : AreApart f (values_of w h canvas)
   values_apart = each_of_values w h canvas (λ v. Each (λ u. f u ≡ f v → u ≡ v) (values_of w h canvas)) (λ u v lu lv. each_of_values w h canvas (λ b. f b ≡ f (canvas u v) → b ≡ canvas u v) (λ x y lx ly. apart x y u v lx ly lu lv))
 
-  pub background_same : f 0 ≡ 0 → 0 < w → 0 < h → (runs : Runs) → background_of runs w h shown ≡ f (background_of runs w h canvas)
+  pub background_same : f 0 ≡ 0 → 0 < w → 0 < h → (runs : RectForm) → background_of runs w h shown ≡ f (background_of runs w h canvas)
   background_same none lw lh OfRows = shows 0 0 lw lh
   background_same none lw lh Joined = ap most_frequent values_same ∙ most_frequent_same f (values_of w h canvas) values_apart none
 
-  background_apart : (runs : Runs) (x y : ℕ) → x < w → y < h → f (canvas x y) ≡ f (background_of runs w h canvas) → canvas x y ≡ background_of runs w h canvas
+  background_apart : (runs : RectForm) (x y : ℕ) → x < w → y < h → f (canvas x y) ≡ f (background_of runs w h canvas) → canvas x y ≡ background_of runs w h canvas
   background_apart OfRows x y lx ly e = apart x y 0 0 lx ly (omega arith) (omega arith) e
   background_apart Joined x y lx ly e =
       let values : List ℕ = values_of w h canvas in
@@ -202,16 +202,16 @@ module _ (f : ℕ → ℕ) (w h : ℕ) (canvas shown : Canvas) (apart : IsApart 
       most_holds (λ b. f (canvas x y) ≡ f b → canvas x y ≡ b) values some (each_of_values w h canvas (λ b. f (canvas x y) ≡ f b → canvas x y ≡ b) (λ u v lu lv. apart x y u v lx ly lu lv)) e
 
   -- Each subrectangle has the value of a position.
-  each_subrect : (runs : Runs) (P : Subrect → Type 0) → ((x y : ℕ) (s : Subrect) → x < w → y < h → s.value ≡ canvas x y → P s) → Each P (subrects_of runs w h canvas)
+  each_subrect : (runs : RectForm) (P : Subrect → Type 0) → ((x y : ℕ) (s : Subrect) → x < w → y < h → s.value ≡ canvas x y → P s) → Each P (subrects_of runs w h canvas)
   each_subrect OfRows P g = each_run_over canvas (canvas 0 0) w h P (λ x y lx ly b. g x y (run_from canvas w y x) lx ly refl)
   each_subrect Joined P g = each_joined canvas (background_of Joined w h canvas) w h P (λ x y lx ly. g x y (with_below canvas w h (run_from canvas w y x)) lx ly refl)
 
-  pub subrects_apart : (runs : Runs) → Each (λ s. Each (λ t. f t.value ≡ f s.value → t.value ≡ s.value) (subrects_of runs w h canvas)) (subrects_of runs w h canvas)
+  pub subrects_apart : (runs : RectForm) → Each (λ s. Each (λ t. f t.value ≡ f s.value → t.value ≡ s.value) (subrects_of runs w h canvas)) (subrects_of runs w h canvas)
   subrects_apart runs =
       each_subrect runs (λ s. Each (λ t. f t.value ≡ f s.value → t.value ≡ s.value) (subrects_of runs w h canvas)) (λ x y s lx ly es.
       each_subrect runs (λ t. f t.value ≡ f s.value → t.value ≡ s.value) (λ u v t lu lv et e. et ∙ (apart u v x y lu lv lx ly (ap f (sym et) ∙ (e ∙ ap f es)) ∙ sym es)))
 
-  pub subrects_same : f 0 ≡ 0 → 0 < w → 0 < h → (runs : Runs) → subrects_of runs w h shown ≡ map (recoloured f) (subrects_of runs w h canvas)
+  pub subrects_same : f 0 ≡ 0 → 0 < w → 0 < h → (runs : RectForm) → subrects_of runs w h shown ≡ map (recoloured f) (subrects_of runs w h canvas)
   subrects_same none lw lh OfRows = ap (λ b. runs_over shown b w h) (background_same none lw lh OfRows) ∙ runs_same (canvas 0 0) (background_apart OfRows)
   subrects_same none lw lh Joined =
       let background : ℕ = background_of Joined w h canvas in
@@ -224,12 +224,12 @@ module _ (format : PixelFormat) (w h : ℕ) (colours shown : Canvas) (is : Shows
   colours_apart : IsApart (tint format) w h colours
   colours_apart x y u v lx ly lu lv e = is.apart (colours x y) (colours u v) (is.are_colours x y lx ly) (is.are_colours u v lu lv) e
 
-  pub background_tinted : (runs : Runs) → background_of runs w h shown ≡ tint format (background_of runs w h colours)
+  pub background_tinted : (runs : RectForm) → background_of runs w h shown ≡ tint format (background_of runs w h colours)
   background_tinted runs = background_same (tint format) w h colours shown colours_apart is.shows (black format) is.wide is.high runs
 
-  pub subrects_tinted : (runs : Runs) → subrects_of runs w h shown ≡ map (tinted_subrect format) (subrects_of runs w h colours)
+  pub subrects_tinted : (runs : RectForm) → subrects_of runs w h shown ≡ map (tinted_subrect format) (subrects_of runs w h colours)
   subrects_tinted runs = subrects_same (tint format) w h colours shown colours_apart is.shows (black format) is.wide is.high runs
 
   -- No two subrectangles have one pixel value that have different colours.
-  pub colours_apart_in : (runs : Runs) → Each (λ s. Each (λ t. tint format t.value ≡ tint format s.value → t.value ≡ s.value) (subrects_of runs w h colours)) (subrects_of runs w h colours)
+  pub colours_apart_in : (runs : RectForm) → Each (λ s. Each (λ t. tint format t.value ≡ tint format s.value → t.value ≡ s.value) (subrects_of runs w h colours)) (subrects_of runs w h colours)
   colours_apart_in runs = subrects_apart (tint format) w h colours shown colours_apart is.shows runs

@@ -6,8 +6,8 @@ use Rattle.pixel_format.specs.PixelFormat.{PixelFormat}
 use Rattle.raster.specs.Screen.{Canvas, part_of, tile_rect, values_of}
 use Rattle.raster.specs.Encoding.{Carried, tile_bytes, tile_bytes_from}
 use Rattle.raster.proofs.Values.{each_value}
-use Rattle.joined_runs.specs.declared.runs.Runs.{Runs}
-use Rattle.joined_runs.specs.declared.runs.Runs.TheVariants.{OfRows, Joined}
+use Rattle.joined_runs.specs.declared.rect_form.RectForm.{RectForm}
+use Rattle.joined_runs.specs.declared.rect_form.RectForm.TheVariants.{OfRows, Joined}
 use Rattle.joined_runs.specs.Joined.{background_of, subrects_of, joined_runs, tiles_from_as}
 use Rattle.raster.proofs.TileSpelled.{few_runs}
 use Rattle.joined_runs.proofs.MostFrequent.{most_holds}
@@ -21,7 +21,7 @@ same_tiles format w h canvas before k (suc n) =
     ap (λ t. first.0 ++ t) (same_tiles format w h canvas first.1 (k + 1) n)
 
 -- A tile's subrectangles are at most 255, so that their number is a byte.
-pub few_subrects : (runs : Runs) (canvas : Canvas) (w h : ℕ) → 0 < w → w ≤ 16 → 0 < h → h ≤ 16 → length (subrects_of runs w h canvas) ≤ 255
+pub few_subrects : (runs : RectForm) (canvas : Canvas) (w h : ℕ) → 0 < w → w ≤ 16 → 0 < h → h ≤ 16 → length (subrects_of runs w h canvas) ≤ 255
 few_subrects OfRows canvas w h lw lw2 lh lh2 = few_runs canvas w h lw lw2 lh lh2
 few_subrects Joined canvas w h lw lw2 lh lh2 =
     let values : List ℕ = values_of w h canvas in

@@ -11,7 +11,7 @@ use Rattle.raster.specs.declared.encoding.Encoding.{Encoding}
 use Rattle.raster.specs.declared.encoding.Encoding.TheVariants.{Raw, Rre, Hextile}
 use Rattle.raster.specs.Screen.{Canvas, value_at}
 use Rattle.raster.specs.Encoding.{Subrect, runs, rre_subrect_bytes, form}
-use Rattle.joined_runs.specs.declared.runs.Runs.TheVariants.{Joined}
+use Rattle.joined_runs.specs.declared.rect_form.RectForm.TheVariants.{Joined}
 use Rattle.joined_runs.specs.Joined.{joined_runs, hextile_bytes_as, shorter, form_of}
 use Rattle.joined_runs.proofs.Counts.{joined_few}
 

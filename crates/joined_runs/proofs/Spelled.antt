@@ -19,8 +19,8 @@ use Rattle.raster.proofs.RreSpelled.{CanBeSaid, drawing_is_read}
 use Rattle.raster.proofs.TileSpelled.{Knows, IsSmall, TileRead, raw_or_drawn_is_read}
 use Rattle.raster.proofs.HextileSpelled.{WritesTiles, tiled_is_read}
 use Rattle.raster.proofs.Forms as forms
-use Rattle.joined_runs.specs.declared.runs.Runs.{Runs}
-use Rattle.joined_runs.specs.declared.runs.Runs.TheVariants.{OfRows, Joined}
+use Rattle.joined_runs.specs.declared.rect_form.RectForm.{RectForm}
+use Rattle.joined_runs.specs.declared.rect_form.RectForm.TheVariants.{OfRows, Joined}
 use Rattle.joined_runs.specs.Joined.{most_frequent, with_below, joined_runs, tile_bytes_as, tiles_from_as, hextile_bytes_as, form_of}
 use Rattle.joined_runs.specs.Laws.{IsReadBack, FormDetermines}
 use Rattle.joined_runs.proofs.MostFrequent.{most_holds}
@@ -83,7 +83,7 @@ hextile_is_read format w h values ok each lw e =
 
 -- ---- the laws
 
-pub form_is_read : (runs : Runs) (encoding : Encoding) → IsReadBack runs encoding
+pub form_is_read : (runs : RectForm) (encoding : Encoding) → IsReadBack runs encoding
 form_is_read OfRows encoding format w h values ok v = forms.form_is_read encoding format w h values ok v
 form_is_read Joined Raw format w h values ok v = forms.form_is_read Raw format w h values ok v
 form_is_read Joined Rre format w h values ok v = rre_is_read format w h values ok (forms.are_pixels format w h values v) v.wide.0 v.wide.1 v.high.0 v.high.1 v.count
@@ -93,7 +93,7 @@ form_is_read Joined Hextile format w h values ok v =
     cond_both (nat_le (length bytes) (length others)) bytes others (λ field. Spells (pixels Hextile format w h) field values)
     (λ e. hextile_is_read format w h values ok (forms.are_pixels format w h values v) v.wide.0 v.count) (λ e. forms.form_is_read Hextile format w h values ok v)
 
-pub form_determines : (runs : Runs) → FormDetermines runs
+pub form_determines : (runs : RectForm) → FormDetermines runs
 form_determines runs encoding format w h values others ok v u e =
     (prefix_free (pixels encoding format w h) (form_of runs encoding format w h others) (form_of runs encoding format w h others) [] [] values others
     (subst (λ field. Spells (pixels encoding format w h) field values) e (form_is_read runs encoding format w h values ok v)) (form_is_read runs encoding format w h others ok u) refl).1

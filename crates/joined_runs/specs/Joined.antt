@@ -8,8 +8,8 @@ use Rattle.raster.specs.declared.encoding.Encoding.{Encoding}
 use Rattle.raster.specs.declared.encoding.Encoding.TheVariants.{Raw, Rre, Hextile}
 use Rattle.raster.specs.Screen.{Canvas, values_of, value_at, part_of, tile_count, tile_rect}
 use Rattle.raster.specs.Encoding.{Subrect, Carried, nothing_carried, run_from, runs_of_row, raw_bytes, rre_subrect_bytes, drawn_bytes, drawn_leaves, form}
-use Rattle.joined_runs.specs.declared.runs.Runs.{Runs}
-use Rattle.joined_runs.specs.declared.runs.Runs.TheVariants.{OfRows, Joined}
+use Rattle.joined_runs.specs.declared.rect_form.RectForm.{RectForm}
+use Rattle.joined_runs.specs.declared.rect_form.RectForm.TheVariants.{OfRows, Joined}
 
 -- ---- the background
 
@@ -50,7 +50,7 @@ with_below canvas w h run =
 
 -- The subrectangles that are written for runs of rows: these runs themselves; or, joined, the runs that aren't joined
 -- to one above them, each with those below it.
-abbrev pub written : Runs → Canvas → ℕ → ℕ → List Subrect → List Subrect
+abbrev pub written : RectForm → Canvas → ℕ → ℕ → List Subrect → List Subrect
 written OfRows canvas w h runs = runs
 written Joined canvas w h runs = map (with_below canvas w h) (filter (λ run. not (is_below canvas w run)) runs)
 
@@ -69,17 +69,17 @@ joined_rre_bytes format w h canvas =
 -- ---- Hextile (RFC 6143, 7.7.4)
 
 -- The background of a tile: the first pixel's value; or the most frequent one.
-abbrev pub background_of : Runs → ℕ → ℕ → Canvas → ℕ
+abbrev pub background_of : RectForm → ℕ → ℕ → Canvas → ℕ
 background_of OfRows w h canvas = canvas 0 0
 background_of Joined w h canvas = most_frequent (values_of w h canvas)
 
 -- The subrectangles of a tile.
-abbrev pub subrects_of : Runs → ℕ → ℕ → Canvas → List Subrect
+abbrev pub subrects_of : RectForm → ℕ → ℕ → Canvas → List Subrect
 subrects_of runs w h canvas = written runs canvas w h (runs_over canvas (background_of runs w h canvas) w h)
 
 -- The bytes of a tile, and what it carries on. The mask, what is left off, and when a tile is Raw follow the same rules
 -- in both forms.
-abbrev pub tile_bytes_as : Runs → PixelFormat → Carried → ℕ → ℕ → Canvas → List ℕ × Carried
+abbrev pub tile_bytes_as : RectForm → PixelFormat → Carried → ℕ → ℕ → Canvas → List ℕ × Carried
 tile_bytes_as runs format before w h canvas =
     let background = background_of runs w h canvas in
     let subrects = subrects_of runs w h canvas in
@@ -88,7 +88,7 @@ tile_bytes_as runs format before w h canvas =
     if nat_le (length as_raw) (length drawn) then (as_raw, nothing_carried) else (drawn, drawn_leaves background subrects)
 
 -- This many tiles of a rectangle, the first of them number k.
-abbrev pub tiles_from_as : Runs → PixelFormat → ℕ → ℕ → Canvas → Carried → ℕ → ℕ → List ℕ
+abbrev pub tiles_from_as : RectForm → PixelFormat → ℕ → ℕ → Canvas → Carried → ℕ → ℕ → List ℕ
 tiles_from_as runs format w h canvas before k zero = []
 tiles_from_as runs format w h canvas before k (suc n) =
     let here = tile_rect w h k in
@@ -96,7 +96,7 @@ tiles_from_as runs format w h canvas before k (suc n) =
     first.0 ++ tiles_from_as runs format w h canvas first.1 (k + 1) n
 
 -- The tiles of a rectangle.
-abbrev pub hextile_bytes_as : Runs → PixelFormat → ℕ → ℕ → Canvas → List ℕ
+abbrev pub hextile_bytes_as : RectForm → PixelFormat → ℕ → ℕ → Canvas → List ℕ
 hextile_bytes_as runs format w h canvas = tiles_from_as runs format w h canvas nothing_carried 0 (tile_count w h)
 
 -- ---- both forms
@@ -108,19 +108,19 @@ shorter bytes others = if nat_le (length bytes) (length others) then bytes else 
 -- The data of a rectangle of these values in an encoding. Only in Hextile may joined runs have more bytes: where the
 -- most frequent value isn't the first, there can be more runs, and the background may have to be said. The rectangle is
 -- then written as the runs of rows.
-abbrev pub form_of : Runs → Encoding → PixelFormat → ℕ → ℕ → List ℕ → List ℕ
+abbrev pub form_of : RectForm → Encoding → PixelFormat → ℕ → ℕ → List ℕ → List ℕ
 form_of OfRows encoding format w h values = form encoding format w h values
 form_of Joined Raw format w h values = raw_bytes format values
 form_of Joined Rre format w h values = joined_rre_bytes format w h (value_at w values)
 form_of Joined Hextile format w h values = shorter (hextile_bytes_as Joined format w h (value_at w values)) (form Hextile format w h values)
 
 -- The form is used only where it has fewer bytes than Raw.
-abbrev pub saves_bytes_as : Runs → Encoding → PixelFormat → ℕ → ℕ → List ℕ → Bool
+abbrev pub saves_bytes_as : RectForm → Encoding → PixelFormat → ℕ → ℕ → List ℕ → Bool
 saves_bytes_as runs encoding format w h values = nat_lt (length (form_of runs encoding format w h values)) (length (raw_bytes format values))
 
 -- What an encoder answers. Where the form has fewer bytes than Raw, its bytes stand at the front of out, and their
 -- number is the answer. Otherwise the answer is None.
-abbrev pub IsEncodedAs : Runs → Encoding → PixelFormat → ℕ → ℕ → List ℕ → List ℕ → Option ℕ → Type 0
+abbrev pub IsEncodedAs : RectForm → Encoding → PixelFormat → ℕ → ℕ → List ℕ → List ℕ → Option ℕ → Type 0
 IsEncodedAs runs encoding format w h values out (Some n) =
     (saves_bytes_as runs encoding format w h values ≡ true) × (n ≡ length (form_of runs encoding format w h values)) × (take n out ≡ form_of runs encoding format w h values)
 IsEncodedAs runs encoding format w h values out None = saves_bytes_as runs encoding format w h values ≡ false

@@ -6,7 +6,7 @@ ghost use Rattle.raster.specs.Screen.{part_of, value_at};
 ghost use Rattle.joined_runs.specs.Joined.{stands_in, is_below, written};
 ghost use Rattle.joined_runs.specs.Found.{HasRun, LiesAmong, subrect_of, subrect_as_high, rows_below};
 
-use crate::runs::Runs;
+use crate::rect_form::RectForm;
 use raster::Rect;
 
 /// A run of a row: `len` pixels of one value, from column `x` of row `y` of its rectangle on.
@@ -89,7 +89,7 @@ fn rows_below(values: &[u32], w: usize, area: &Rect, run: &RowRun) -> usize
 /// written, since the run is joined to one above it. The values stand in rows of `w`, and the rectangle's are those of
 /// `area`.
 #[inline]
-pub fn height(runs: Runs, values: &[u32], w: usize, area: &Rect, run: &RowRun) -> Option<usize>
+pub fn height(runs: RectForm, values: &[u32], w: usize, area: &Rect, run: &RowRun) -> Option<usize>
     requires { HasRun values.now w area.now run.now }
     ensures value { let one = written runs (part_of area.now (value_at w values.now))
         area.now.w area.now.h (subrect_of run.now ∷ []) in
@@ -98,8 +98,8 @@ pub fn height(runs: Runs, values: &[u32], w: usize, area: &Rect, run: &RowRun) -
     ensures within { IfSome result (λ high. run.now.y + high ≤ area.now.h) }
 {
     match runs {
-        Runs::OfRows => Some(1),
-        Runs::Joined if is_below(values, w, area, run) => None,
-        Runs::Joined => Some(1 + rows_below(values, w, area, run)),
+        RectForm::OfRows => Some(1),
+        RectForm::Joined if is_below(values, w, area, run) => None,
+        RectForm::Joined => Some(1 + rows_below(values, w, area, run)),
     }
 }

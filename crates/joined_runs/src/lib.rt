@@ -6,8 +6,8 @@
 
 mod joining;
 mod law;
-mod runs;
+mod rect_form;
 
 pub use joining::{RowRun, height};
 pub use law::{form_is_read, form_is_tinted, forms_differ, joined_is_shorter};
-pub use runs::Runs;
+pub use rect_form::RectForm;

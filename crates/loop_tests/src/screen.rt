@@ -99,7 +99,7 @@ enum Course {
 }
 
 /// A shared screen, how many watchers it has, and the number of the last update.
-struct Trial {
+struct ScreenCase {
     name: &'static str,
     places: usize,
     course: Course,
@@ -108,7 +108,7 @@ struct Trial {
 
 /// The second watcher, which is told of each of three patches, looks at each and cuts each. The first, which meets the
 /// publisher after them, looks at the last.
-const TOLD: Trial = Trial {
+const TOLD: ScreenCase = ScreenCase {
     name: "three puts are told",
     places: 2,
     course: Course::Turns(&[
@@ -137,7 +137,7 @@ const TOLD: Trial = Trial {
 
 /// For the first of three patches the first watcher wants forms, for the second both do, and for the third the second
 /// does. A form is kept only of what the second patch changed.
-const KEPT: Trial = Trial {
+const KEPT: ScreenCase = ScreenCase {
     name: "forms are kept for two watchers",
     places: 2,
     course: Course::Turns(&[
@@ -164,7 +164,7 @@ const KEPT: Trial = Trial {
 
 /// One watcher alone shares nothing. Of the two formats of hosts and browsers the one that more watchers want is
 /// chosen, and the host's where as many want either, or none of them.
-const CHOSEN: Trial = Trial {
+const CHOSEN: ScreenCase = ScreenCase {
     name: "areas are encoded in the format of most watchers",
     places: 3,
     course: Course::Turns(&[
@@ -250,7 +250,7 @@ const CHOSEN: Trial = Trial {
 const LAST: u64 = MANY + 1;
 
 /// Four threads read beside one that puts.
-const BESIDE: Trial = Trial {
+const BESIDE: ScreenCase = ScreenCase {
     name: "very many puts beside four watchers",
     places: 5,
     course: Course::Beside,
@@ -260,7 +260,7 @@ const BESIDE: Trial = Trial {
 /// Each of four places holds a cut of another update. Then puts go on, and change none of these cuts. Where one place
 /// holds a second cut, there are as many boards as there may be, seven: those of five cuts and of two copies. So a put
 /// is refused, and changes nothing, until that cut is of a newer update.
-const STALLED: Trial = Trial {
+const STALLED: ScreenCase = ScreenCase {
     name: "places that stall hold a board each",
     places: 4,
     course: Course::Turns(&[
@@ -292,10 +292,10 @@ const STALLED: Trial = Trial {
     last: 103,
 };
 
-static TRIALS: [Trial; 5] = [TOLD, KEPT, CHOSEN, BESIDE, STALLED];
+static CASES: [ScreenCase; 5] = [TOLD, KEPT, CHOSEN, BESIDE, STALLED];
 
 /// Five puts are answered, at once or the next time.
-static SHORT: Trial = Trial {
+static SHORT: ScreenCase = ScreenCase {
     name: "puts without memory",
     places: 2,
     course: Course::Short,
@@ -481,30 +481,30 @@ fn plays<J: Naming + Publishes + Send + Sync, R: Threads + Wait + Sync + Send + 
     rt: R,
     alloc: Global,
     opened: Opened<J>,
-    trial: &Trial,
+    case: &ScreenCase,
 ) -> Result<bool, Fault>
     requires { (opened.seen.book ≡ J.book) × (4 ≡ J.width) × (4 ≡ J.height) }
 {
-    let places = trial.places.clamp(1, 66);
+    let places = case.places.clamp(1, 66);
     let (mut publisher, mut watchers) = shared::<J, R>(rt, alloc, opened, 4, 4, places)?;
     let watchers = watchers.as_mut_slice();
     let mut rooms = make_rooms(alloc)?;
     let rooms = rooms.as_mut_slice();
-    let is_right = goes_right(rt, alloc, &mut publisher, watchers, rooms, &trial.course);
+    let is_right = goes_right(rt, alloc, &mut publisher, watchers, rooms, &case.course);
     publisher.end();
-    let is_left = is_gone(watchers, rooms, trial.last);
+    let is_left = is_gone(watchers, rooms, case.last);
     match is_right {
         Ok(is_right) => Ok(is_right && is_left),
         Err(fault) => Err(fault),
     }
 }
 
-/// Each trial goes right. The first that doesn't is named.
+/// Each case goes right. The first that doesn't is named.
 #[test]
 fn screens_are_shared(rt: HostRuntime) -> Result<(), Fail> {
-    for trial in &TRIALS {
-        if !plays::<Brand, _>(rt, rt.alloc(), Opened::new(), trial).unwrap_or(false) {
-            return Err(Fail::new(trial.name));
+    for case in &CASES {
+        if !plays::<Brand, _>(rt, rt.alloc(), Opened::new(), case).unwrap_or(false) {
+            return Err(Fail::new(case.name));
         }
     }
     Ok(())

@@ -7,7 +7,7 @@ ghost use Rattle.input_relay.specs.Ends.{inputs_of};
 use crate::watch::{ALWAYS, link_of, make_watch, number, red_and_blue};
 use fault::Fault;
 use input_relay::{Sender, Taker, relay};
-use joined_runs::Runs;
+use joined_runs::RectForm;
 use link::{Gave, MemoryLink, Took};
 use reflect_core::PlainScreen;
 use roles::{Input, InputSink, Role};
@@ -20,7 +20,7 @@ use viewer_session::{AnswerForm, Session};
 
 /// The form in which viewers are answered.
 const FORM: AnswerForm = AnswerForm {
-    runs: Runs::OfRows,
+    runs: RectForm::OfRows,
     zrle: false,
 };
 

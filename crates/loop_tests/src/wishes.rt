@@ -5,7 +5,7 @@ ghost use Rattle.std.specs.Prelude.{◌≡◌, length};
 use crate::watch::{ALWAYS, link_of, make_watch, red_and_blue};
 use fault::Fault;
 use input_relay::relay;
-use joined_runs::Runs;
+use joined_runs::RectForm;
 use link::{Gave, Took};
 use painter::Wanted;
 use pixel_format::Format;
@@ -91,10 +91,10 @@ const TAKES_RAW: &[u8] = b"\x02\0\0\x01\0\0\0\0\x03\0\0\0\0\0\0\x02\0\x01";
 
 /// What two viewers send, in which form they are answered, and what was wanted in the end: an answer in Hextile in the
 /// host's format and in joined runs uses forms (docs/DECISIONS.md).
-const WISHES: [(&[u8], Runs, u64); 3] = [
-    (TAKES_HEXTILE, Runs::Joined, NO_LONGER),
-    (TAKES_HEXTILE, Runs::OfRows, NONE),
-    (TAKES_RAW, Runs::Joined, NONE),
+const WISHES: [(&[u8], RectForm, u64); 3] = [
+    (TAKES_HEXTILE, RectForm::Joined, NO_LONGER),
+    (TAKES_HEXTILE, RectForm::OfRows, NONE),
+    (TAKES_RAW, RectForm::Joined, NONE),
 ];
 
 /// What was wanted in the end for a viewer that sends this and is answered in this form.
@@ -102,7 +102,7 @@ fn wish_for<R: Wait + Drop + Copy>(
     rt: R,
     alloc: Global,
     sends: &[u8],
-    runs: Runs,
+    runs: RectForm,
 ) -> Result<u64, Fault> {
     let takes = [
         (Took::Bytes(sends.len()), 1),

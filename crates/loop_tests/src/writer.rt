@@ -128,12 +128,12 @@ fn relay_with<R: Wait + Drop + Copy>(
 
 /// How many inputs were dropped.
 #[derive(Drop)]
-struct Untold {
+struct DropCounter {
     count: u64,
 }
 
-impl DropCount for Untold {
-    ghost dropped = { λ untold. untold.count };
+impl DropCount for DropCounter {
+    ghost dropped = { λ drops. drops.count };
 
     fn count_one(&mut self) {
         self.count = LIMIT.min(self.count.saturating_add(1));
@@ -159,16 +159,16 @@ fn tells<R: Wait + Drop>(
         looks: 0,
         flag: &watch,
     };
-    let untold = Untold { count: 0 };
-    let first = TellBeginning::of(&link, &source, &taker, &strokes, &untold);
-    let mut telling = Telling::new(&first, link, source, taker, strokes, untold);
+    let drops = DropCounter { count: 0 };
+    let first = TellBeginning::of(&link, &source, &taker, &strokes, &drops);
+    let mut telling = Telling::new(&first, link, source, taker, strokes, drops);
     let answer = run_writer(rt, &mut telling, &watch, &watch);
-    let (link, _, _, strokes, untold) = telling.into_parts(());
+    let (link, _, _, strokes, drops) = telling.into_parts(());
     let rests = watch.rests.load(Ordering::SeqCst);
     let is_rested = case.rests.0 <= rests && rests <= case.rests.1;
     let dropped = (strokes.dropped(0), strokes.dropped(1));
     let are_counted = dropped == case.dropped
-        && untold.count == case.dropped.0.saturating_add(case.dropped.1);
+        && drops.count == case.dropped.0.saturating_add(case.dropped.1);
     let is_answered = number(answer) == case.answer && link.given() == case.given;
     is_answered && is_rested && are_counted
 }

@@ -1,15 +1,15 @@
 //! Tests of lines that are requests and of lines that aren't, and of a sequence of comings, leavings and requests.
 
 use roles::Role;
-use run_control::{Doors, Entry, Form, Outcome, Place, Request};
+use run_control::{Doors, Entry, Outcome, Place, Request, StateForm};
 use std::net::{IpAddr, Ipv4Addr, Ipv6Addr, SocketAddr};
 use std::test::Fail;
 
 #[test]
 fn lines_are_read(rt: HostRuntime) {
     for (line, request) in [
-        ("state", Request::State(Form::Text)),
-        ("state json", Request::State(Form::Json)),
+        ("state", Request::State(StateForm::Text)),
+        ("state json", Request::State(StateForm::Json)),
         ("drain", Request::Drain),
         ("undrain", Request::Undrain),
         ("next", Request::Next),
@@ -180,6 +180,6 @@ fn one_is_asked_to_leave_and_then_all(rt: HostRuntime) -> Result<(), Fail> {
     assert_eq!(rt; doors.entry(), Entry::Closed);
     doors.leave(1);
     assert!(rt; !doors.enter(1) && !doors.enter(4));
-    assert_eq!(rt; doors.ask(Request::State(Form::Text)), Outcome::Done);
+    assert_eq!(rt; doors.ask(Request::State(StateForm::Text)), Outcome::Done);
     Ok(())
 }

@@ -17,15 +17,15 @@ use Rattle.raster.proofs.Places.{Has, holds_has}
 use Rattle.tiles.proofs.Ranges.{IsTile, tile_is}
 use Rattle.tiles.proofs.Touching.{or_left, or_right, same_after_paints}
 use Rattle.tiles.specs.Touched.{touches}
-use Rattle.joined_runs.specs.declared.runs.Runs.{Runs}
-use Rattle.joined_runs.specs.declared.runs.Runs.TheVariants.{OfRows, Joined}
+use Rattle.joined_runs.specs.declared.rect_form.RectForm.{RectForm}
+use Rattle.joined_runs.specs.declared.rect_form.RectForm.TheVariants.{OfRows, Joined}
 use Rattle.joined_runs.specs.Joined.{subrects_of}
 use Rattle.joined_runs.proofs.Recoloured.{background_same, recoloured, subrects_same}
 use Rattle.hextile_codec.specs.declared.kept.TileForm.{TileForm}
-use Rattle.hextile_codec.specs.declared.kind.Head.{Head}
+use Rattle.hextile_codec.specs.declared.tile_kind.Head.{Head}
 use Rattle.hextile_codec.specs.Heads.{IsHeadOf}
 use Rattle.hextile_codec.specs.Kept.{AreFormsOf, FormStands}
-use Rattle.hextile_codec.specs.Kinds.{kind_of}
+use Rattle.hextile_codec.specs.TileKinds.{kind_of}
 use Rattle.hextile_codec.specs.Marks.{LiesAmong}
 use Rattle.hextile_codec.proofs.KeptForms.{if_some}
 use Rattle.painter.specs.Forms.{AreFormsBut, TookForms}
@@ -44,10 +44,10 @@ recoloured_as_it_is [] = refl
 recoloured_as_it_is (s ∷ ss) = ap (λ t. s ∷ t) (recoloured_as_it_is ss)
 
 module _ (w h : ℕ) (a b : Canvas) (lw : 0 < w) (lh : 0 < h) (alike : LooksLike w h b a) where
-  subrects_alike : (runs : Runs) → subrects_of runs w h a ≡ subrects_of runs w h b
+  subrects_alike : (runs : RectForm) → subrects_of runs w h a ≡ subrects_of runs w h b
   subrects_alike runs = sym (subrects_same as_it_is w h a b (λ x y u v lx ly lu lv e. e) alike refl lw lh runs ∙ recoloured_as_it_is (subrects_of runs w h a))
 
-  head_alike : (runs : Runs) (head : Head) → IsHeadOf runs w h a head → IsHeadOf runs w h b head
+  head_alike : (runs : RectForm) (head : Head) → IsHeadOf runs w h a head → IsHeadOf runs w h b head
   head_alike runs head of =
       record {
         background = of.background ∙ sym (background_same as_it_is w h a b (λ x y u v lx ly lu lv e. e) alike refl lw lh runs);

@@ -4,7 +4,7 @@ use Rattle.pixel_format.specs.PixelFormat.{PixelFormat, tint}
 use Rattle.raster.specs.declared.rect.Rect.{Rect}
 use Rattle.raster.specs.declared.encoding.Encoding.TheVariants.{Hextile}
 use Rattle.raster.specs.Screen.{Canvas}
-use Rattle.joined_runs.specs.declared.runs.Runs.TheVariants.{Joined}
+use Rattle.joined_runs.specs.declared.rect_form.RectForm.TheVariants.{Joined}
 use Rattle.joined_runs.specs.Joined.{form_of, saves_bytes_as}
 use Rattle.painter.specs.declared.encoded.EncodedArea.{EncodedArea}
 use Rattle.painter.specs.Painter.{colours_in}

@@ -13,7 +13,7 @@ ghost use Rattle.std.proofs.Props.{props};
 
 use crate::area_forms::forms_in;
 use hextile_codec::{PixelSource, TileForm, encode_from};
-use joined_runs::Runs;
+use joined_runs::RectForm;
 use pixel_format::Format;
 use raster::Rect;
 
@@ -52,7 +52,7 @@ impl<'a> AreaSource<'a> {
     /// Its colours are made pixel values only as they are put.
     pub fn encode(
         &self,
-        runs: Runs,
+        runs: RectForm,
         area: &Rect,
         forms: &[Option<TileForm>],
         format: &Format,

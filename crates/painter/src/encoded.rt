@@ -8,7 +8,7 @@ ghost use Rattle.raster.specs.Size.{IsScreenSize};
 
 use crate::area_source::AreaSource;
 use fault::Fault;
-use joined_runs::Runs;
+use joined_runs::RectForm;
 use pixel_format::Format;
 use raster::{Rect, TILE_SIDE, tile_count};
 use std::alloc::Global;
@@ -38,7 +38,7 @@ fn encode_at(
         return None;
     }
     let forms = source.kept_forms(area, format);
-    let len = source.encode(Runs::Joined, area, forms, format, free)?;
+    let len = source.encode(RectForm::Joined, area, forms, format, free)?;
     Some(start + len)
 }
 

@@ -10,7 +10,7 @@ mod ends;
 
 use ends::{NoInput, NoRest, NoStop};
 use fault::Fault;
-use joined_runs::Runs;
+use joined_runs::RectForm;
 use link::{Gave, MemoryLink, Took};
 use painter::Painter;
 use raster::Rect;
@@ -24,7 +24,7 @@ use viewer_session::{AnswerForm, Session};
 
 /// The form in which viewers are answered.
 const FORM: AnswerForm = AnswerForm {
-    runs: Runs::Joined,
+    runs: RectForm::Joined,
     zrle: false,
 };
 

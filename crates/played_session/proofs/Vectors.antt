@@ -4,7 +4,7 @@ use Rattle.std.proofs.Common.{◌≡◌, ℕ, Bool, true, false, List, [], ◌�
 use Rattle.raster.specs.Update.{Update}
 use Rattle.rfb_wire.specs.Handshake.{said_to_viewer, version}
 use Rattle.rfb_wire.specs.Writing.{request_bytes}
-use Rattle.joined_runs.specs.declared.runs.Runs.TheVariants.{Joined}
+use Rattle.joined_runs.specs.declared.rect_form.RectForm.TheVariants.{Joined}
 use Rattle.roles.specs.declared.role.Role.TheVariants.{View}
 use Rattle.reflect_core.specs.Sequential.{Begins}
 use Rattle.host_decoder.specs.Hosts.{updates_in_turn}

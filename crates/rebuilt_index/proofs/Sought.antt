@@ -18,7 +18,7 @@ use Rattle.rebuilt_index.specs.Anew.{AreKeyMoments, IsKey, IsShownAnew, said_byt
 use Rattle.rebuilt_index.specs.Following.{Follows, Shows}
 use Rattle.rebuilt_index.specs.Seeking.{IsOpened, IsTried, IsTriedIfAny, SeeksBy, last_of}
 use Rattle.rebuilt_index.specs.declared.follower.Follower.{Follower}
-use Rattle.rebuilt_index.specs.declared.seeker.Trial.{Trial}
+use Rattle.rebuilt_index.specs.declared.seeker.Candidate.{Candidate}
 use Rattle.rebuilt_index.proofs.Steps.{shows}
 
 pub said_append : (some more : List Block) → said_bytes (some ++ more) ≡ said_bytes some ++ said_bytes more
@@ -70,16 +70,16 @@ pub last_more : (before : KeyMoment) (moments : List KeyMoment) (m : KeyMoment) 
 last_more before [] m = refl
 last_more before (x ∷ moments) m = last_more x moments m
 
-pub notes : (main : Follower) (trial : Option Trial) (moments : List KeyMoment) (last m : KeyMoment) (blocks : List Block) → SeeksBy [] main trial moments last blocks → IsKey blocks m → last.time ≤ m.time → last.place ≤ m.place → m.time < 2 ^ 32 → m.place < 2 ^ 64
-    → SeeksBy [] main trial (moments ++ m ∷ []) m blocks
-notes main trial moments last m blocks s key time place short near =
+pub notes : (main : Follower) (candidate : Option Candidate) (moments : List KeyMoment) (last m : KeyMoment) (blocks : List Block) → SeeksBy [] main candidate moments last blocks → IsKey blocks m → last.time ≤ m.time → last.place ≤ m.place → m.time < 2 ^ 32 → m.place < 2 ^ 64
+    → SeeksBy [] main candidate (moments ++ m ∷ []) m blocks
+notes main candidate moments last m blocks s key time place short near =
     record {
       hello = s.hello;
       joined = s.joined;
       stream = s.stream;
       opened = s.opened;
       main = s.main;
-      trial = s.trial;
+      candidate = s.candidate;
       found = record {
         in_order = in_order_more start moments m s.found.in_order (subst (λ (l : KeyMoment). l.time ≤ m.time) s.last time) (subst (λ (l : KeyMoment). l.place ≤ m.place) s.last place) short near;
         each = All-append (IsKey blocks) moments (m ∷ []) s.found.each (All-cons (IsKey blocks) m [] key (All-nil (IsKey blocks)));
@@ -89,7 +89,7 @@ notes main trial moments last m blocks s key time place short near =
 
 -- ---- a block comes
 
-tried_on : (w h : ℕ) (hello stream : List ℕ) (blocks : List Block) (block : Block) (said : List ℕ) (t : Trial) → block.said ≡ said → IsTried w h hello stream blocks [] t → IsTried w h hello stream (blocks ++ block ∷ []) said t
+tried_on : (w h : ℕ) (hello stream : List ℕ) (blocks : List Block) (block : Block) (said : List ℕ) (t : Candidate) → block.said ≡ said → IsTried w h hello stream blocks [] t → IsTried w h hello stream (blocks ++ block ∷ []) said t
 tried_on w h hello stream blocks block said t e k =
     record {
       earlier = k.earlier;
@@ -106,7 +106,7 @@ tried_on w h hello stream blocks block said t e k =
       follows = k.follows;
     }
 
-tried_on_if : (w h : ℕ) (hello stream : List ℕ) (blocks : List Block) (block : Block) (said : List ℕ) (o : Option Trial) → block.said ≡ said → IsTriedIfAny w h hello stream blocks [] o → IsTriedIfAny w h hello stream (blocks ++ block ∷ []) said o
+tried_on_if : (w h : ℕ) (hello stream : List ℕ) (blocks : List Block) (block : Block) (said : List ℕ) (o : Option Candidate) → block.said ≡ said → IsTriedIfAny w h hello stream blocks [] o → IsTriedIfAny w h hello stream (blocks ++ block ∷ []) said o
 tried_on_if w h hello stream blocks block said None e k = tt
 tried_on_if w h hello stream blocks block said (Some t) e k = tried_on w h hello stream blocks block said t e k
 
@@ -117,30 +117,30 @@ opened_on blocks block hello stream said joined e k =
       said = said_next blocks block said e ∙ (ap (λ (xs : List ℕ). xs ++ said) (k.said ∙ ap (λ (xs : List ℕ). hello ++ xs) (append-nil stream)) ∙ append_assoc hello stream said);
     }
 
-pub goes_on : (main : Follower) (trial : Option Trial) (moments : List KeyMoment) (last : KeyMoment) (blocks : List Block) (block : Block) (said : List ℕ) → block.said ≡ said → SeeksBy [] main trial moments last blocks
-    → SeeksBy said main trial moments last (blocks ++ block ∷ [])
-goes_on main trial moments last blocks block said e s =
+pub goes_on : (main : Follower) (candidate : Option Candidate) (moments : List KeyMoment) (last : KeyMoment) (blocks : List Block) (block : Block) (said : List ℕ) → block.said ≡ said → SeeksBy [] main candidate moments last blocks
+    → SeeksBy said main candidate moments last (blocks ++ block ∷ [])
+goes_on main candidate moments last blocks block said e s =
     record {
       hello = s.hello;
       joined = s.joined;
       stream = s.stream;
       opened = opened_on blocks block s.hello s.stream said s.joined e s.opened;
       main = s.main;
-      trial = tried_on_if s.joined.w s.joined.h s.hello s.stream blocks block said trial e s.trial;
+      candidate = tried_on_if s.joined.w s.joined.h s.hello s.stream blocks block said candidate e s.candidate;
       found = found_stays moments blocks (block ∷ []) s.found;
       last = s.last;
     }
 
-pub tries : (main other : Follower) (trial : Option Trial) (moments : List KeyMoment) (last m : KeyMoment) (blocks : List Block) (block : Block) (said : List ℕ) (w h : ℕ) → block.said ≡ said → m ≡ moment_before blocks block
-    → w ≡ main.decoder.width → h ≡ main.decoder.height → main.is_between ≡ true → Follows w h other [] → SeeksBy [] main trial moments last blocks → SeeksBy said main (Some (record { moment = m; follower = other })) moments last (blocks ++ block ∷ [])
-tries main other trial moments last m blocks block said w h e is wide high between follows s =
+pub tries : (main other : Follower) (candidate : Option Candidate) (moments : List KeyMoment) (last m : KeyMoment) (blocks : List Block) (block : Block) (said : List ℕ) (w h : ℕ) → block.said ≡ said → m ≡ moment_before blocks block
+    → w ≡ main.decoder.width → h ≡ main.decoder.height → main.is_between ≡ true → Follows w h other [] → SeeksBy [] main candidate moments last blocks → SeeksBy said main (Some (record { moment = m; follower = other })) moments last (blocks ++ block ∷ [])
+tries main other candidate moments last m blocks block said w h e is wide high between follows s =
     record {
       hello = s.hello;
       joined = s.joined;
       stream = s.stream;
       opened = opened_on blocks block s.hello s.stream said s.joined e s.opened;
       main = s.main;
-      trial = record {
+      candidate = record {
         earlier = blocks;
         block = block;
         later = [];
@@ -164,31 +164,31 @@ opened_all : (blocks : List Block) (hello stream said : List ℕ) (joined : Join
 opened_all blocks hello stream said joined k = record { spelled = k.spelled; said = k.said ∙ ap (λ (xs : List ℕ). hello ++ xs) (sym (append-nil (stream ++ said))) }
 
 pub follows_none : (main next : Follower) (moments : List KeyMoment) (last : KeyMoment) (blocks : List Block) (said : List ℕ) → ((w h : ℕ) (stream : List ℕ) → Follows w h main stream → Follows w h next (stream ++ said))
-    → (trial : Option Trial) → trial ≡ None → SeeksBy said main trial moments last blocks → SeeksBy [] next None moments last blocks
-follows_none main next moments last blocks said more trial none s =
+    → (candidate : Option Candidate) → candidate ≡ None → SeeksBy said main candidate moments last blocks → SeeksBy [] next None moments last blocks
+follows_none main next moments last blocks said more candidate none s =
     record {
       hello = s.hello;
       joined = s.joined;
       stream = s.stream ++ said;
       opened = opened_all blocks s.hello s.stream said s.joined s.opened;
       main = more s.joined.w s.joined.h s.stream s.main;
-      trial = tt;
+      candidate = tt;
       found = s.found;
       last = s.last;
     }
 
 pub follows_both : (main next : Follower) (moments : List KeyMoment) (last : KeyMoment) (blocks : List Block) (said : List ℕ) → ((w h : ℕ) (stream : List ℕ) → Follows w h main stream → Follows w h next (stream ++ said))
-    → (trial : Option Trial) (t : Trial) (other : Follower) → trial ≡ Some t → ((w h : ℕ) (stream : List ℕ) → Follows w h t.follower stream → Follows w h other (stream ++ said))
-    → SeeksBy said main trial moments last blocks → SeeksBy [] next (Some (record t { follower = other })) moments last blocks
-follows_both main next moments last blocks said more trial t other some also s =
-    let k : IsTried s.joined.w s.joined.h s.hello s.stream blocks said t = subst (IsTriedIfAny s.joined.w s.joined.h s.hello s.stream blocks said) some s.trial in
+    → (candidate : Option Candidate) (t : Candidate) (other : Follower) → candidate ≡ Some t → ((w h : ℕ) (stream : List ℕ) → Follows w h t.follower stream → Follows w h other (stream ++ said))
+    → SeeksBy said main candidate moments last blocks → SeeksBy [] next (Some (record t { follower = other })) moments last blocks
+follows_both main next moments last blocks said more candidate t other some also s =
+    let k : IsTried s.joined.w s.joined.h s.hello s.stream blocks said t = subst (IsTriedIfAny s.joined.w s.joined.h s.hello s.stream blocks said) some s.candidate in
     record {
       hello = s.hello;
       joined = s.joined;
       stream = s.stream ++ said;
       opened = opened_all blocks s.hello s.stream said s.joined s.opened;
       main = more s.joined.w s.joined.h s.stream s.main;
-      trial = record {
+      candidate = record {
         earlier = k.earlier;
         block = k.block;
         later = k.later;
@@ -208,8 +208,8 @@ follows_both main next moments last blocks said more trial t other some also s =
 
 -- ---- it is judged
 
-pub without : (main : Follower) (trial : Option Trial) (moments : List KeyMoment) (last : KeyMoment) (blocks : List Block) → SeeksBy [] main trial moments last blocks → SeeksBy [] main None moments last blocks
-without main trial moments last blocks s = record { hello = s.hello; joined = s.joined; stream = s.stream; opened = s.opened; main = s.main; trial = tt; found = s.found; last = s.last }
+pub without : (main : Follower) (candidate : Option Candidate) (moments : List KeyMoment) (last : KeyMoment) (blocks : List Block) → SeeksBy [] main candidate moments last blocks → SeeksBy [] main None moments last blocks
+without main candidate moments last blocks s = record { hello = s.hello; joined = s.joined; stream = s.stream; opened = s.opened; main = s.main; candidate = tt; found = s.found; last = s.last }
 
 looks : (w h : ℕ) (one other : Follower) (before fed stream : List ℕ) → Follows w h one fed → Follows w h other stream → one.is_between ≡ true → other.is_between ≡ true → Shows one.painter other.painter → one.painter.width ≡ w → one.painter.height ≡ h → stream ≡ before ++ fed
     → LooksLike w h (screen (updates w h fed)) (screen (updates w h (before ++ fed)))
@@ -218,10 +218,10 @@ looks w h one other before fed stream f g e d s wide high is x y lx ly =
     let all = shows w h other.decoder other.painter other.is_between stream g d x y (omega (arith, lx, wide, s.wide)) (omega (arith, ly, high, s.high)) in
     sym mine ∙ (s.same x y (omega (arith, lx, wide)) (omega (arith, ly, high)) ∙ (all ∙ ap (λ (xs : List ℕ). screen (updates w h xs) x y) is))
 
-pub is_key : (main : Follower) (trial : Option Trial) (t : Trial) (moments : List KeyMoment) (last : KeyMoment) (blocks : List Block) → trial ≡ Some t → SeeksBy [] main trial moments last blocks → main.is_between ≡ true → t.follower.is_between ≡ true
+pub is_key : (main : Follower) (candidate : Option Candidate) (t : Candidate) (moments : List KeyMoment) (last : KeyMoment) (blocks : List Block) → candidate ≡ Some t → SeeksBy [] main candidate moments last blocks → main.is_between ≡ true → t.follower.is_between ≡ true
     → Shows t.follower.painter main.painter → t.follower.painter.width ≡ t.follower.decoder.width → t.follower.painter.height ≡ t.follower.decoder.height → IsKey blocks t.moment
-is_key main trial t moments last blocks some s all one same wide high =
-    let k : IsTried s.joined.w s.joined.h s.hello s.stream blocks [] t = subst (IsTriedIfAny s.joined.w s.joined.h s.hello s.stream blocks []) some s.trial in
+is_key main candidate t moments last blocks some s all one same wide high =
+    let k : IsTried s.joined.w s.joined.h s.hello s.stream blocks [] t = subst (IsTriedIfAny s.joined.w s.joined.h s.hello s.stream blocks []) some s.candidate in
     let said : said_bytes (k.block ∷ k.later) ≡ k.fed = k.left ∙ append-nil k.fed in
     let anew : IsShownAnew s.joined.w s.joined.h k.before k.fed = record {
       all_between = ap (rest (host_message s.joined.w s.joined.h)) (sym k.behind) ∙ s.main.between all;

@@ -33,7 +33,7 @@ use Rattle.rebuilt_index.specs.Seeking.{IsTried, IsTriedIfAny, SeeksBy}
 use Rattle.rebuilt_index.specs.declared.bad.BadRebuild.{BadRebuild}
 use Rattle.rebuilt_index.specs.declared.bad.BadRebuild.TheVariants.{Recording, Session, File}
 use Rattle.rebuilt_index.specs.declared.follower.Follower.{Follower}
-use Rattle.rebuilt_index.specs.declared.seeker.Trial.{Trial}
+use Rattle.rebuilt_index.specs.declared.seeker.Candidate.{Candidate}
 use Rattle.rebuilt_index.proofs.Rebuilt.{place_behind}
 use Rattle.rebuilt_index.proofs.Sought.{said_append, said_next}
 
@@ -104,17 +104,17 @@ session_more fault blocks more (inr (inr (inr long))) = inr (inr (inr (long_more
 
 -- ---- a block is followed
 
-main_by : (main : Follower) (trial : Option Trial) (moments : List KeyMoment) (last : KeyMoment) (blocks : List Block) (said : List ℕ) (fault : Fault) → (s : SeeksBy said main trial moments last blocks)
+main_by : (main : Follower) (candidate : Option Candidate) (moments : List KeyMoment) (last : KeyMoment) (blocks : List Block) (said : List ℕ) (fault : Fault) → (s : SeeksBy said main candidate moments last blocks)
     → ((fault ≡ Memory) ⊎ (rest (host_message s.joined.w s.joined.h) (s.stream ++ said) ≡ Faulty fault)) → StopsSession fault blocks
-main_by main trial moments last blocks said fault s (inl memory) = inl memory
-main_by main trial moments last blocks said fault s (inr bad) = inr (inr (inl (record { hello = s.hello; joined = s.joined; stream = s.stream ++ said; opened = s.opened; bad = bad })))
+main_by main candidate moments last blocks said fault s (inl memory) = inl memory
+main_by main candidate moments last blocks said fault s (inr bad) = inr (inr (inl (record { hello = s.hello; joined = s.joined; stream = s.stream ++ said; opened = s.opened; bad = bad })))
 
-pub main_stops : (main : Follower) (trial : Option Trial) (moments : List KeyMoment) (last : KeyMoment) (blocks : List Block) (said : List ℕ) (fault : Fault) → SeeksBy said main trial moments last blocks
+pub main_stops : (main : Follower) (candidate : Option Candidate) (moments : List KeyMoment) (last : KeyMoment) (blocks : List Block) (said : List ℕ) (fault : Fault) → SeeksBy said main candidate moments last blocks
     → ((w h : ℕ) (stream : List ℕ) → Follows w h main stream → (fault ≡ Memory) ⊎ (rest (host_message w h) (stream ++ said) ≡ Faulty fault)) → StopsSession fault blocks
-main_stops main trial moments last blocks said fault s why = main_by main trial moments last blocks said fault s (why s.joined.w s.joined.h s.stream s.main)
+main_stops main candidate moments last blocks said fault s why = main_by main candidate moments last blocks said fault s (why s.joined.w s.joined.h s.stream s.main)
 
 -- Who has followed from a block on that begins between two messages finds the fault that one finds who has followed all.
-tried_bad : (w h : ℕ) (hello stream : List ℕ) (blocks : List Block) (said : List ℕ) (t : Trial) (fault : Fault) → (k : IsTried w h hello stream blocks said t)
+tried_bad : (w h : ℕ) (hello stream : List ℕ) (blocks : List Block) (said : List ℕ) (t : Candidate) (fault : Fault) → (k : IsTried w h hello stream blocks said t)
     → ((fault ≡ Memory) ⊎ (rest (host_message w h) (k.fed ++ said) ≡ Faulty fault)) → (fault ≡ Memory) ⊎ (rest (host_message w h) (stream ++ said) ≡ Faulty fault)
 tried_bad w h hello stream blocks said t fault k (inl memory) = inl memory
 tried_bad w h hello stream blocks said t fault k (inr bad) =
@@ -122,17 +122,17 @@ tried_bad w h hello stream blocks said t fault k (inr bad) =
     inr (ap (λ (xs : List ℕ). rest form (xs ++ said)) k.behind ∙ (ap (rest form) (append_assoc k.before k.fed said)
     ∙ (rest-append form form k.before (k.fed ++ said) ∙ (ap (λ (r : Reading ServerMessage). rest_from form r (k.fed ++ said)) k.between ∙ bad))))
 
-pub trial_stops : (main : Follower) (trial : Option Trial) (t : Trial) (moments : List KeyMoment) (last : KeyMoment) (blocks : List Block) (said : List ℕ) (fault : Fault) → trial ≡ Some t → SeeksBy said main trial moments last blocks
+pub candidate_stops : (main : Follower) (candidate : Option Candidate) (t : Candidate) (moments : List KeyMoment) (last : KeyMoment) (blocks : List Block) (said : List ℕ) (fault : Fault) → candidate ≡ Some t → SeeksBy said main candidate moments last blocks
     → ((w h : ℕ) (stream : List ℕ) → Follows w h t.follower stream → (fault ≡ Memory) ⊎ (rest (host_message w h) (stream ++ said) ≡ Faulty fault)) → StopsSession fault blocks
-trial_stops main trial t moments last blocks said fault some s why =
-    let k : IsTried s.joined.w s.joined.h s.hello s.stream blocks said t = subst (IsTriedIfAny s.joined.w s.joined.h s.hello s.stream blocks said) some s.trial in
-    main_by main trial moments last blocks said fault s (tried_bad s.joined.w s.joined.h s.hello s.stream blocks said t fault k (why s.joined.w s.joined.h k.fed k.follows))
+candidate_stops main candidate t moments last blocks said fault some s why =
+    let k : IsTried s.joined.w s.joined.h s.hello s.stream blocks said t = subst (IsTriedIfAny s.joined.w s.joined.h s.hello s.stream blocks said) some s.candidate in
+    main_by main candidate moments last blocks said fault s (tried_bad s.joined.w s.joined.h s.hello s.stream blocks said t fault k (why s.joined.w s.joined.h k.fed k.follows))
 
 -- ---- the size of a screen
 
 -- Each size that a session may tell is that of a screen.
-pub seeks_size : (main : Follower) (trial : Option Trial) (moments : List KeyMoment) (last : KeyMoment) (blocks : List Block) (w h : ℕ) → w ≡ main.decoder.width → h ≡ main.decoder.height → SeeksBy [] main trial moments last blocks → IsScreenSize w h
-seeks_size main trial moments last blocks w h wide high s =
+pub seeks_size : (main : Follower) (candidate : Option Candidate) (moments : List KeyMoment) (last : KeyMoment) (blocks : List Block) (w h : ℕ) → w ≡ main.decoder.width → h ≡ main.decoder.height → SeeksBy [] main candidate moments last blocks → IsScreenSize w h
+seeks_size main candidate moments last blocks w h wide high s =
     let size : IsScreenSize s.joined.w s.joined.h = joined_screen None s.hello s.joined s.opened.spelled.says in
     subst (λ (a : ℕ). IsScreenSize a h) (sym (wide ∙ s.main.wide)) (subst (λ (b : ℕ). IsScreenSize s.joined.w b) (sym (high ∙ s.main.high)) size)
 

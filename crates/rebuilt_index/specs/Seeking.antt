@@ -13,7 +13,7 @@ use Rattle.rebuilt_index.specs.Anew.{AreKeyMoments, said_bytes}
 use Rattle.rebuilt_index.specs.Following.{Follows}
 use Rattle.rebuilt_index.specs.declared.follower.Follower.{Follower}
 use Rattle.rebuilt_index.specs.declared.seeker.Seeker.{Seeker}
-use Rattle.rebuilt_index.specs.declared.seeker.Trial.{Trial}
+use Rattle.rebuilt_index.specs.declared.seeker.Candidate.{Candidate}
 use Rattle.rebuilt_index.specs.declared.rebuild.Rebuilder.{Rebuilder}
 use Rattle.rebuilt_index.specs.declared.rebuild.Session.{Session}
 
@@ -25,7 +25,7 @@ pub record IsOpened (blocks : List Block) (hello : List ℕ) (joined : Joined) (
 -- A second follower is tried, which follows from a block on that begins between two messages. The main one has followed
 -- `stream`, and the second one all of this that is said from the block on. Of what the blocks say only `rest`, at the
 -- end, wasn't followed yet.
-pub record IsTried (w h : ℕ) (hello stream : List ℕ) (blocks : List Block) (rest : List ℕ) (t : Trial) : Type 0 where
+pub record IsTried (w h : ℕ) (hello stream : List ℕ) (blocks : List Block) (rest : List ℕ) (t : Candidate) : Type 0 where
   pub earlier : List Block
   pub block : Block
   pub later : List Block
@@ -40,7 +40,7 @@ pub record IsTried (w h : ℕ) (hello stream : List ℕ) (blocks : List Block) (
   pub follows : Follows w h t.follower fed
 
 -- The same, if a second follower is tried.
-abbrev pub IsTriedIfAny : ℕ → ℕ → (hello stream : List ℕ) → List Block → (rest : List ℕ) → Option Trial → Type 0
+abbrev pub IsTriedIfAny : ℕ → ℕ → (hello stream : List ℕ) → List Block → (rest : List ℕ) → Option Candidate → Type 0
 IsTriedIfAny w h hello stream blocks rest None = Unit {0}
 IsTriedIfAny w h hello stream blocks rest (Some t) = IsTried w h hello stream blocks rest t
 
@@ -50,18 +50,18 @@ last_of before [] = before
 last_of before (m ∷ moments) = last_of m moments
 
 -- All that the blocks say was followed, except `rest` at the end, and these key moments were found.
-pub record SeeksBy (rest : List ℕ) (follower : Follower) (tried : Option Trial) (moments : List KeyMoment) (latest : KeyMoment) (blocks : List Block) : Type 0 where
+pub record SeeksBy (rest : List ℕ) (follower : Follower) (tried : Option Candidate) (moments : List KeyMoment) (latest : KeyMoment) (blocks : List Block) : Type 0 where
   pub hello : List ℕ
   pub joined : Joined
   pub stream : List ℕ
   pub opened : IsOpened blocks hello joined (stream ++ rest)
   pub main : Follows joined.w joined.h follower stream
-  pub trial : IsTriedIfAny joined.w joined.h hello stream blocks rest tried
+  pub candidate : IsTriedIfAny joined.w joined.h hello stream blocks rest tried
   pub found : AreKeyMoments moments blocks
   pub last : latest ≡ last_of start moments
 
 abbrev pub Seeks : (rest : List ℕ) → Seeker → List Block → Type 0
-Seeks rest s blocks = SeeksBy rest s.main s.trial s.moments.items s.last blocks
+Seeks rest s blocks = SeeksBy rest s.main s.candidate s.moments.items s.last blocks
 
 -- The handshake was heard so far, and isn't whole.
 pub record IsOpening (s : Session) (blocks : List Block) : Type 0 where

@@ -23,7 +23,7 @@ const LEAST_APART: u32 = 1_000;
 
 /// A follower from a block on that may be a key moment.
 #[derive(Drop)]
-pub(crate) struct Trial {
+pub(crate) struct Candidate {
     pub(crate) moment: KeyMoment,
     pub(crate) follower: Follower,
 }
@@ -45,13 +45,13 @@ fn look_alike(one: &Follower, other: &Follower) -> bool
 }
 
 /// The block that was looked at, unless a whole update has come after which the screens differ.
-fn still_tried(trial: Trial) -> Option<Trial>
-    ensures { IfSome result (λ left. left ≡ trial) }
+fn still_tried(candidate: Candidate) -> Option<Candidate>
+    ensures { IfSome result (λ left. left ≡ candidate) }
 {
-    if trial.follower.is_between && trial.follower.is_painted {
+    if candidate.follower.is_between && candidate.follower.is_painted {
         return None;
     }
-    Some(trial)
+    Some(candidate)
 }
 
 /// Follows a session from its beginning on, and has the key moments that were found so far.
@@ -60,7 +60,7 @@ pub(crate) struct Seeker {
     alloc: Global,
     main: Follower,
     /// The block that may be a key moment, if one is looked at.
-    trial: Option<Trial>,
+    candidate: Option<Candidate>,
     moments: Vec<KeyMoment>,
     /// The last of them, or the beginning of the recording.
     last: KeyMoment,
@@ -94,7 +94,7 @@ impl Seeker {
         Ok(Seeker {
             alloc,
             main,
-            trial: None,
+            candidate: None,
             moments: Vec::new(alloc),
             last: KeyMoment { time: 0, place: 0 },
         })
@@ -109,7 +109,7 @@ impl Seeker {
     fn may_begin(&self, time: u32) -> bool
         ensures { result ≡ true → self.now.main.is_between ≡ true }
     {
-        self.trial.is_none() && self.main.is_between && self.is_due(time)
+        self.candidate.is_none() && self.main.is_between && self.is_due(time)
     }
 
     /// Begins to look at the block that comes next, where it may be a key moment.
@@ -125,7 +125,7 @@ impl Seeker {
             return Ok(());
         }
         let follower = Follower::new(self.alloc, width, height)?;
-        self.trial = Some(Trial { moment, follower });
+        self.candidate = Some(Candidate { moment, follower });
         Ok(())
     }
 
@@ -137,23 +137,23 @@ impl Seeker {
             → IfErr result (λ fault. StopsSession fault blocks) }
     {
         self.main.feed(said)?;
-        let Some(mut trial) = self.trial.take() else {
+        let Some(mut candidate) = self.candidate.take() else {
             return Ok(());
         };
-        trial.follower.feed(said)?;
-        self.trial = Some(trial);
+        candidate.follower.feed(said)?;
+        self.candidate = Some(candidate);
         Ok(())
     }
 
     /// Whether both who follow stand between two messages, and show the same.
-    fn is_key(&self, trial: &Trial) -> bool
+    fn is_key(&self, candidate: &Candidate) -> bool
         ensures main { result ≡ true → self.now.main.is_between ≡ true }
-        ensures trial { result ≡ true → trial.now.follower.is_between ≡ true }
+        ensures candidate { result ≡ true → candidate.now.follower.is_between ≡ true }
         ensures same { result ≡ true
-            → Shows trial.now.follower.painter self.now.main.painter }
+            → Shows candidate.now.follower.painter self.now.main.painter }
     {
-        let are_between = self.main.is_between && trial.follower.is_between;
-        are_between && look_alike(&trial.follower, &self.main)
+        let are_between = self.main.is_between && candidate.follower.is_between;
+        are_between && look_alike(&candidate.follower, &self.main)
     }
 
     /// Notes a key moment, unless it is before the last one.
@@ -177,13 +177,13 @@ impl Seeker {
             → OnOk result (Seeks [] self.new blocks) }
         ensures err { IfErr result (λ bad. bad ≡ Recording recording.Memory) }
     {
-        let Some(trial) = self.trial.take() else {
+        let Some(candidate) = self.candidate.take() else {
             return Ok(());
         };
-        if self.is_key(&trial) {
-            return self.note(trial.moment);
+        if self.is_key(&candidate) {
+            return self.note(candidate.moment);
         }
-        self.trial = still_tried(trial);
+        self.candidate = still_tried(candidate);
         Ok(())
     }
 
@@ -208,7 +208,7 @@ impl Seeker {
         let Seeker {
             alloc: _,
             main: _,
-            trial: _,
+            candidate: _,
             moments,
             last: _,
         } = self;

@@ -11,7 +11,7 @@ use Rattle.host_decoder.specs.Updates.{update_of, updates}
 use Rattle.reflect_core.specs.Sequential.{Begins}
 use Rattle.viewer_session.specs.Turn.{has_reason}
 use Rattle.viewer_session.specs.Viewer.{Setup, Viewer, may_look}
-use Rattle.reflect_world.specs.Schedule.{World, Relayed, Step, HostBytes, Put, Raise, Join, Bytes, Look, Cut, Written, Send, Take, Part, Next, all_updates, next_update, fault_now, next_begins, beginning, happens, play, play_from, put_next, for_viewer, look_at, cut_at, send_waiting, take_first}
+use Rattle.reflect_world.specs.Schedule.{World, Relayed, Step, HostBytes, Put, Raise, Join, Bytes, Look, Cut, Written, Send, Take, Leave, Next, all_updates, next_update, fault_now, next_begins, beginning, happens, play, play_from, put_next, for_viewer, look_at, cut_at, send_waiting, take_first}
 use Rattle.reflect_world.specs.Said.{ArePutInOrder}
 use Rattle.reflect_world.specs.Host.{host_form}
 use Rattle.reflect_world.proofs.HostReading.{past-append}
@@ -92,7 +92,7 @@ order_step s w (Cut v) k = order_for s w (w.viewers v) _ k (λ p. order_cut s w 
 order_step s w (Written v n) k = order_for s w (w.viewers v) _ k (λ p. k)
 order_step s w (Send v) k = order_for s w (w.viewers v) _ k (λ p. order_send s w v p p.waiting k)
 order_step s w Take k = order_take s w w.queue k
-order_step s w (Part v) k = order_for s w (w.viewers v) _ k (λ p. k)
+order_step s w (Leave v) k = order_for s w (w.viewers v) _ k (λ p. k)
 
 order_from : (s : Setup) (w : World) (es : List Step) → ArePutInOrder s w → ArePutInOrder s (play_from s w es)
 order_from s w [] k = k

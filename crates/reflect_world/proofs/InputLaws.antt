@@ -20,7 +20,7 @@ use Rattle.viewer_session.specs.Viewer.{Setup, Viewer, after_bytes, after_cut, m
 use Rattle.viewer_session.proofs.Bytes.{same_role}
 use Rattle.viewer_session.proofs.Passing.{began_last, began_messages, passed_as, passed_begins, passed_bytes, passed_on}
 use Rattle.reflect_world.specs.Input.{LeavesAllowed, RelaysInEverySchedule, StaysAllowed, bounds_stay, input_by, relayed_by, all_relayed}
-use Rattle.reflect_world.specs.Schedule.{Relayed, World, Step, HostBytes, Put, Raise, Join, Bytes, Look, Cut, Written, Send, Take, Part, beginning, cut_at, for_viewer, happens, leaves_behind, look_at, play, play_from, put_next, send_waiting, take_first, taken_from, Next, next_update, fault_now}
+use Rattle.reflect_world.specs.Schedule.{Relayed, World, Step, HostBytes, Put, Raise, Join, Bytes, Look, Cut, Written, Send, Take, Leave, beginning, cut_at, for_viewer, happens, leaves_behind, look_at, play, play_from, put_next, send_waiting, take_first, taken_from, Next, next_update, fault_now}
 use Rattle.reflect_world.proofs.NextHosts.{next_either}
 use Rattle.reflect_world.proofs.Reaching.{play-more}
 use Rattle.reflect_world.proofs.Steps.{play_from-append}
@@ -183,7 +183,7 @@ stay_step s role v base w (Written u n) keeps k =
     stay_for role v u base w (w.viewers u) _ refl k (λ p e. stay_on role v u base w _ p _ e refl refl refl (λ sent h. passed_as p _ sent h refl refl refl refl refl) k)
 stay_step s role v base w (Send u) keeps k = stay_for role v u base w (w.viewers u) _ refl k (λ p e. stay_send s role v u base w p p.waiting refl e k)
 stay_step s role v base w Take keeps k = take_still role v base w w.queue refl k
-stay_step s role v base w (Part u) keeps k =
+stay_step s role v base w (Leave u) keeps k =
     stay_for role v u base w (w.viewers u) _ refl k
     (λ p e. record {
       viewer = k.viewer;
@@ -225,7 +225,7 @@ with_releases Full ms =
     ap (λ (l : List Input). l ++ releases l) (sym (append-nil passed))
 
 leaves_so : (s : Setup) (w : World) (v : ℕ) (p : Viewer) → w.viewers v ≡ Some p
-    → relayed_by v (happens s w (Part v)) ≡ relayed_by v w ++ take (s.room - length w.queue) (waiting_list p.waiting ++ releases (allowed p.role (messages_in p.entries) false))
+    → relayed_by v (happens s w (Leave v)) ≡ relayed_by v w ++ take (s.room - length w.queue) (waiting_list p.waiting ++ releases (allowed p.role (messages_in p.entries) false))
 leaves_so s w v p e =
     let n : ℕ = s.room - length w.queue in
     let all : List Input = waiting_list p.waiting ++ releases (allowed p.role (messages_in p.entries) false) in
@@ -245,7 +245,7 @@ leaves_allowed s before es v role k =
     with_releases p.role (messages_in p.entries) ∙ (ap (λ (l : List Input). l ++ follows) k.passed.all ∙ append_assoc k.sent (waiting_list p.waiting) follows) in
     record {
       sent = k.sent ++ take n all;
-      relayed = ap (relayed_by v) (play-more s es (Part v))
+      relayed = ap (relayed_by v) (play-more s es (Leave v))
           ∙ (leaves_so s w v p k.there
           ∙ (ap (λ (l : List Input). l ++ take n all) k.relayed ∙ append_assoc (relayed_by v (play s before)) k.sent (take n all)));
       begins = (drop n all, whole_is ∙ (ap (λ (l : List Input). k.sent ++ l) (sym (take-append-drop n all)) ∙ sym (append_assoc k.sent (take n all) (drop n all))));
@@ -324,7 +324,7 @@ relays_step s w (Cut v) = relays_for s w (w.viewers v) _ (λ p at. relays_cut s 
 relays_step s w (Written v n) = relays_for s w (w.viewers v) _ (λ p at. relays_none s w _ refl)
 relays_step s w (Send v) = relays_for s w (w.viewers v) _ (λ p at. relays_send s w v p p.waiting at)
 relays_step s w Take = relays_none s w _ (take_same w w.queue refl)
-relays_step s w (Part v) =
+relays_step s w (Leave v) =
     relays_for s w (w.viewers v) _
     (λ p at. let all : List Input = waiting_list p.waiting ++ releases (allowed p.role (messages_in p.entries) false) in
     relays_some s w _ v p (take (s.room - length w.queue) all) at (ap (λ (l : List Relayed). w.taken ++ (w.queue ++ l)) (take_map (λ i. record { viewer = v; input = i }) (s.room - length w.queue) all)))

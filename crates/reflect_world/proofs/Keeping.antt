@@ -10,7 +10,7 @@ use Rattle.fault.specs.declared.kinds.Fault.TheVariants.{Memory, NumbersOut}
 use Rattle.raster.specs.Size.{IsScreenSize}
 use Rattle.reflect_world.specs.Schedule.{Step, World}
 use Rattle.reflect_world.specs.World.{IsFaithful, IsServed, IsKept, IsRefusal, JoinsUnder, Kept, Leaves, Reached, Shows, ShowsUnder, Standing, StopsAt, entry_of, setup_of, step_of, step_with, unmarked, with_steps, world_of}
-use Rattle.reflect_world.specs.declared.step.Entry.{Entry}
+use Rattle.reflect_world.specs.declared.step.ScheduleEntry.{ScheduleEntry}
 use Rattle.reflect_world.specs.declared.step.Step as declared
 use Rattle.reflect_world.specs.declared.step.Step.TheVariants as code
 use Rattle.reflect_world.proofs.InputLaws.{relays_allowed}
@@ -25,7 +25,7 @@ kept_more k old new e kept fine takes =
     record { named = kept.named; shows = shows_reached (setup_of k) new (world_of (with_steps k (e ∷ []))) now; reached = λ no. now }
 
 -- An entry was pushed, and its step was taken.
-pub kept_pushed : (k : Kept) (entries more : List Entry) (entry : Entry) (old new : Standing) → IsKept (record k { steps = map entry_of entries }) old → k.is_refused ≡ false → more ≡ entries ++ entry ∷ []
+pub kept_pushed : (k : Kept) (entries more : List ScheduleEntry) (entry : ScheduleEntry) (old new : Standing) → IsKept (record k { steps = map entry_of entries }) old → k.is_refused ≡ false → more ≡ entries ++ entry ∷ []
     → JoinsUnder k.name k.runs (entry_of entry) old new → IsKept (record k { steps = map entry_of more }) new
 kept_pushed k entries more entry old new kept fine pushed takes =
     let steps : map entry_of more ≡ map entry_of entries ++ entry_of entry ∷ [] = ap (map entry_of) pushed ∙ map-append entry_of entries (entry ∷ []) in
@@ -41,7 +41,7 @@ kept_joined_by k old new e kept takes shows =
       reached = λ fine. subst (λ w. Reached (setup_of k) new w) more (takes (setup_of k) (world_of k) refl refl refl refl (kept.reached fine));
     }
 
-pub kept_joined : (k : Kept) (entries more : List Entry) (entry : Entry) (old new : Standing) → IsKept (record k { steps = map entry_of entries }) old → more ≡ entries ++ entry ∷ []
+pub kept_joined : (k : Kept) (entries more : List ScheduleEntry) (entry : ScheduleEntry) (old new : Standing) → IsKept (record k { steps = map entry_of entries }) old → more ≡ entries ++ entry ∷ []
     → JoinsUnder k.name k.runs (entry_of entry) old new → ShowsUnder k.name k.runs (entry_of entry) old new → IsKept (record k { steps = map entry_of more }) new
 kept_joined k entries more entry old new kept pushed takes shows =
     let steps : map entry_of more ≡ map entry_of entries ++ entry_of entry ∷ [] = ap (map entry_of) pushed ∙ map-append entry_of entries (entry ∷ []) in
@@ -52,23 +52,23 @@ pub kept_refused : (k : Kept) (standing : Standing) → IsKept k standing → Is
 kept_refused k standing kept = record { named = kept.named; shows = kept.shows; reached = λ no. absurd cc }
 
 -- What is left when the last was taken off again.
-last_off : (entries left : List Entry) (entry taken_off : Entry) → entries ++ entry ∷ [] ≡ left ++ taken_off ∷ [] → left ≡ entries
+last_off : (entries left : List ScheduleEntry) (entry taken_off : ScheduleEntry) → entries ++ entry ∷ [] ≡ left ++ taken_off ∷ [] → left ≡ entries
 last_off entries left entry taken_off same =
     let count : length left ≡ length entries = omega (arith, ap length same, length-append entries (entry ∷ []), length-append left (taken_off ∷ [])) in
     sym (take-append_seam left (taken_off ∷ []))
     ∙ (ap (take (length left)) (sym same) ∙ (ap (λ n. take n (entries ++ entry ∷ [])) count ∙ take-append_seam entries (entry ∷ [])))
 
-pub pushed_and_popped : (entries more left : List Entry) (entry taken_off : Entry) (popped : Option Entry) → more ≡ entries ++ entry ∷ [] → more ≡ left ++ option_to_list popped → popped ≡ Some taken_off → left ≡ entries
+pub pushed_and_popped : (entries more left : List ScheduleEntry) (entry taken_off : ScheduleEntry) (popped : Option ScheduleEntry) → more ≡ entries ++ entry ∷ [] → more ≡ left ++ option_to_list popped → popped ≡ Some taken_off → left ≡ entries
 pushed_and_popped entries more left entry taken_off popped pushed was is = last_off entries left entry taken_off (sym pushed ∙ (was ∙ ap (λ o. left ++ option_to_list o) is))
 
 -- A step wasn't taken, and the entries are as before.
-pub kept_stays : (k : Kept) (entries left : List Entry) (is_refused : Bool) (fault : Fault) (old new : Standing) → IsKept (record k { steps = map entry_of entries }) old → k.is_refused ≡ false → left ≡ entries
+pub kept_stays : (k : Kept) (entries left : List ScheduleEntry) (is_refused : Bool) (fault : Fault) (old new : Standing) → IsKept (record k { steps = map entry_of entries }) old → k.is_refused ≡ false → left ≡ entries
     → Leaves old new fault → (is_refused ≡ false → fault ≡ NumbersOut) → IsKept (record k { steps = map entry_of left; is_refused = is_refused }) new
 kept_stays k entries left is_refused fault old new kept fine same leaves out =
     let w : World = world_of (record k { steps = map entry_of entries }) in
     let as_before : IsKept (record k { steps = map entry_of entries; is_refused = is_refused }) new =
     record { named = kept.named; shows = leaves.0 (setup_of k) w (kept.reached fine); reached = λ no. leaves.1 (out no) (setup_of k) w (kept.reached fine) } in
-    subst (λ (es : List Entry). IsKept (record k { steps = map entry_of es; is_refused = is_refused }) new) (sym same) as_before
+    subst (λ (es : List ScheduleEntry). IsKept (record k { steps = map entry_of es; is_refused = is_refused }) new) (sym same) as_before
 
 -- What isn't refused for want of memory is for want of numbers.
 pub out_of_numbers : (e : Step) (standing : Standing) (fault : Fault) → IsRefusal e standing fault → (fault ≡ Memory → ⊥) → fault ≡ NumbersOut
@@ -121,7 +121,7 @@ unmarked_with (code.Send viewer) lost = refl
 unmarked_with code.Take lost = refl
 
 -- The steps of entries with one more.
-pub steps_pushed : (entries more : List Entry) (entry : Entry) → more ≡ entries ++ entry ∷ [] → map entry_of more ≡ map entry_of entries ++ entry_of entry ∷ []
+pub steps_pushed : (entries more : List ScheduleEntry) (entry : ScheduleEntry) → more ≡ entries ++ entry ∷ [] → map entry_of more ≡ map entry_of entries ++ entry_of entry ∷ []
 steps_pushed entries more entry pushed = ap (map entry_of) pushed ∙ map-append entry_of entries (entry ∷ [])
 
 -- The step at a place, and its definitional step there.

@@ -1,4 +1,4 @@
--- A viewer leaves: what goes into the queue, and what stands in the fields then. `World::part` owes that nothing which
+-- A viewer leaves: what goes into the queue, and what stands in the fields then. `World::leave` owes that nothing which
 -- it held is lost where there is room.
 use Rattle.std.proofs.Common.{◌≡◌, ℕ, suc, zero, ◌-◌, ◌<◌, ◌≤◌, Bool, true, false, cond, List, [], ◌∷◌, ◌++◌, length, take, Option, Some, None, refl, ap, sym, ◌∙◌, subst, arith, append-nil, append_assoc, length-append}
 use Rattle.std.specs.Prelude.{slice_index_or, slice_set, ◌==◌}
@@ -10,7 +10,7 @@ use Rattle.viewer_session.specs.Session.{at_rest}
 use Rattle.viewer_session.specs.Viewer.{Setup, Viewer}
 use Rattle.viewer_session.proofs.SessionLaws.{releases_are}
 use Rattle.reflect_world.specs.Relay.{RelaySide, relayed_of}
-use Rattle.reflect_world.specs.Schedule.{World, Relayed, Part, for_viewer, leaves_behind, set_viewer}
+use Rattle.reflect_world.specs.Schedule.{World, Relayed, Leave, for_viewer, leaves_behind, set_viewer}
 use Rattle.reflect_world.specs.World.{Held, PlaceBy, PlaceShows, PlaceStands, Reached, Shows, ShowsStep, Standing, TakesStep, left_by, place_at}
 use Rattle.reflect_world.proofs.Places.{place_is_some}
 use Rattle.reflect_world.proofs.Reaching.{reached_for, there_is}
@@ -50,8 +50,8 @@ no_more_room v room queue left all full e =
 
 -- ---- the place
 
-abbrev pub parted : Standing → ℕ → Held → RelaySide → Standing
-parted standing v gone relay = record standing { places = slice_set (slice_set standing.places v (Some gone)) v None; relay = relay }
+abbrev pub without_viewer : Standing → ℕ → Held → RelaySide → Standing
+without_viewer standing v gone relay = record standing { places = slice_set (slice_set standing.places v (Some gone)) v None; relay = relay }
 
 places_unset_if : (P : Held → Viewer → Type 0) (places : List (Option Held)) (viewers : ℕ → Option Viewer) (v u : ℕ) (gone : Held) (is : Bool) → (u == v) ≡ is → v < length places
     → PlaceBy P (place_at places u) (viewers u)
@@ -84,10 +84,10 @@ queue_is s standing w v place p r k =
     ap (λ (q : List Relayed). q ++ take (standing.room - length q) (relayed_of v (left_by place))) r.queue
     ∙ (ap (λ n. w.queue ++ take (n - length w.queue) (relayed_of v (left_by place))) r.limit ∙ ap (λ (l : List Relayed). w.queue ++ take (s.room - length w.queue) l) (left_is s standing w v place p r k))
 
-pub parted_reaches : (standing : Standing) (v : ℕ) (found : Option Held) (place gone : Held) (relay : RelaySide) → v < 65 → found ≡ slice_index_or standing.places v found → found ≡ Some place
+pub without_reaches : (standing : Standing) (v : ℕ) (found : Option Held) (place gone : Held) (relay : RelaySide) → v < 65 → found ≡ slice_index_or standing.places v found → found ≡ Some place
     → relay.queue ≡ standing.relay.queue ++ take (standing.room - length standing.relay.queue) (relayed_of v (left_by place)) → relay.taken ≡ standing.relay.taken
-    → TakesStep (Part v) standing (parted standing v gone relay)
-parted_reaches standing v found place gone relay within at e queue taken s w r =
+    → TakesStep (Leave v) standing (without_viewer standing v gone relay)
+without_reaches standing v found place gone relay within at e queue taken s w r =
     reached_for s standing _ w v place _ r (there_is standing v found place r.room within at e)
     (λ p k. record {
       size = r.size;
@@ -109,12 +109,12 @@ parted_reaches standing v found place gone relay within at e queue taken s w r =
     })
 
 -- Also where memory was refused before.
-pub parted_shows : (standing : Standing) (v : ℕ) (found : Option Held) (place gone : Held) (relay : RelaySide) → v < 65 → found ≡ slice_index_or standing.places v found → found ≡ Some place
-    → relay.taken ≡ standing.relay.taken → ShowsStep (Part v) standing (parted standing v gone relay)
-parted_shows standing v found place gone relay within at e taken s w shown =
+pub without_shows : (standing : Standing) (v : ℕ) (found : Option Held) (place gone : Held) (relay : RelaySide) → v < 65 → found ≡ slice_index_or standing.places v found → found ≡ Some place
+    → relay.taken ≡ standing.relay.taken → ShowsStep (Leave v) standing (without_viewer standing v gone relay)
+without_shows standing v found place gone relay within at e taken s w shown =
     let it = place_is_some (PlaceShows s) (place_at standing.places v) (w.viewers v) place (shown.places v) (there_is standing v found place shown.room within at e) in
     subst
-    (λ (o : Option Viewer). Shows s (parted standing v gone relay) (for_viewer w o (λ p. set_viewer (record w { queue = w.queue ++ take (s.room - length w.queue) (leaves_behind v p) }) v None)))
+    (λ (o : Option Viewer). Shows s (without_viewer standing v gone relay) (for_viewer w o (λ p. set_viewer (record w { queue = w.queue ++ take (s.room - length w.queue) (leaves_behind v p) }) v None)))
     (sym it.1)
     (record {
       size = shown.size;

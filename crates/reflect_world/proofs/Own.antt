@@ -12,7 +12,7 @@ use Rattle.byte_reading.specs.Reading.{Reading, Done, Faulty, Want, step, wants_
 use Rattle.raster.specs.declared.rect.Rect.{Rect}
 use Rattle.raster.specs.declared.size.Size.{Size}
 use Rattle.raster.specs.Update.{Update, view}
-use Rattle.joined_runs.specs.declared.runs.Runs.{Runs}
+use Rattle.joined_runs.specs.declared.rect_form.RectForm.{RectForm}
 use Rattle.rfb_wire.specs.ClientMessage.{ClientMessage, client_message}
 use Rattle.roles.specs.Allowed.{Input, passes}
 use Rattle.reflect_core.specs.Sequential as history
@@ -21,7 +21,7 @@ use Rattle.viewer_session.specs.Turn.{has_reason, record_after_cut, size_at, tol
 use Rattle.viewer_session.specs.Viewer.{Setup, Viewer, after_bytes, after_byte, after_cut, after_hello, after_reading, with_input, marked, viewer_fault, may_look, new_viewer}
 use Rattle.viewer_session.proofs.Stands.{numbers_more}
 use Rattle.reflect_world.proofs.NextHosts.{next_either}
-use Rattle.reflect_world.specs.Schedule.{Act, ByHost, ByViewer, World, Relayed, Step, HostBytes, Put, Raise, Join, Bytes, Look, Cut, Written, Send, Take, Part, beginning, happens, play, play_from, put_next, set_viewer, with_act, for_viewer, look_at, cut_at, send_waiting, take_first, Next, next_update, fault_now}
+use Rattle.reflect_world.specs.Schedule.{Act, ByHost, ByViewer, World, Relayed, Step, HostBytes, Put, Raise, Join, Bytes, Look, Cut, Written, Send, Take, Leave, beginning, happens, play, play_from, put_next, set_viewer, with_act, for_viewer, look_at, cut_at, send_waiting, take_first, Next, next_update, fault_now}
 use Rattle.reflect_world.specs.Headline.{is_by, step_by, own_steps, replied_in, replies, HasOwnSteps}
 use Rattle.reflect_world.proofs.History.{IsLegal, legal_step, legal_beginning}
 use Rattle.roles.specs.Held.{input_for}
@@ -58,7 +58,7 @@ own_began us mine n (Some size) o es le k = record { numbers = (le, k.numbers); 
 own_began us mine n None None es le k = k
 own_began us mine n None (Some found) es le k = record { numbers = (le, k.numbers); same = k.same }
 
-own_cut : (form : Runs) (w h : ℕ) (host : Option Size) (us : List Update) (mine : List history.Step) (es : List Entry) → HasOwn us mine es → HasOwn us (mine ++ history.Cut (view us) ∷ []) (record_after_cut form w h host es us)
+own_cut : (form : RectForm) (w h : ℕ) (host : Option Size) (us : List Update) (mine : List history.Step) (es : List Entry) → HasOwn us mine es → HasOwn us (mine ++ history.Cut (view us) ∷ []) (record_after_cut form w h host es us)
 own_cut form w h host us mine es k = own_began us (mine ++ history.Cut (view us) ∷ []) (length us) (size_at w h host es us) (update_at form w h es us) (MadeCut (length us) ∷ es) (omega arith) (own_made_cut us mine es k)
 
 -- What was cut stays so when an update is put.
@@ -251,7 +251,7 @@ own_step s w (Cut v) legal h = own_for w (own_steps w v) (w.viewers v) _ h (h.ow
 own_step s w (Written v n) legal h = own_for w (own_steps w v) (w.viewers v) _ h (h.own v) (λ p k. own_set w v _ h k)
 own_step s w (Send v) legal h = own_for w (own_steps w v) (w.viewers v) _ h (h.own v) (λ p k. own_send s w v p p.waiting h k)
 own_step s w Take legal h = own_take w w.queue h
-own_step s w (Part v) legal h =
+own_step s w (Leave v) legal h =
     own_for w (own_steps w v) (w.viewers v) _ h (h.own v) (λ p k. own_set (record w { queue = _ }) v None (record { unused = h.unused; own = h.own }) tt)
 
 own_from : (s : Setup) (w : World) (es : List Step) → IsLegal w → IsOwn w → IsOwn (play_from s w es)

@@ -7,7 +7,7 @@ use Rattle.fault.specs.declared.kinds.Fault.{Fault}
 use Rattle.byte_reading.specs.Reading.{Reading, fault_of, rest}
 use Rattle.raster.specs.Screen.{opening}
 use Rattle.raster.specs.Update.{Update, view}
-use Rattle.joined_runs.specs.declared.runs.Runs.{Runs}
+use Rattle.joined_runs.specs.declared.rect_form.RectForm.{RectForm}
 use Rattle.rfb_wire.specs.ServerMessage.{ServerMessage}
 use Rattle.roles.specs.Allowed.{Input}
 use Rattle.roles.specs.declared.role.Role.{Role}
@@ -360,7 +360,7 @@ held_is new looked written unread =
     let with_unread : List ℕ → Held = λ b. record { session = new.session; looked = None; written = []; unread = b } in
     ap with_looked looked ∙ (ap with_written written ∙ ap with_unread unread)
 
-pub joined_reaches : (standing : Standing) (v : ℕ) (name : List ℕ) (runs : Runs) (role : Role) (greet : Bool) (new : Held) → v < 65 → new.looked ≡ None → new.written ≡ [] → new.unread ≡ [] → new.session.asked.last ≡ None
+pub joined_reaches : (standing : Standing) (v : ℕ) (name : List ℕ) (runs : RectForm) (role : Role) (greet : Bool) (new : Held) → v < 65 → new.looked ≡ None → new.written ≡ [] → new.unread ≡ [] → new.session.asked.last ≡ None
     → ((s : Setup) → s.w ≡ standing.screen.width → s.h ≡ standing.screen.height → s.name ≡ name → s.runs ≡ runs → s.host ≡ None → s.zrle ≡ false → Stands s new.session (new_viewer role greet))
     → JoinsUnder name runs (Join v role greet) standing (with_place standing v new)
 joined_reaches standing v name runs role greet new within looked written unread uncut stands s w named formed untold plain r =
@@ -525,7 +525,7 @@ broken_off standing v found place new within at e broken s w r =
     }
 
 -- A viewer joins, also where memory was refused before.
-pub joined_shows : (standing : Standing) (v : ℕ) (name : List ℕ) (runs : Runs) (role : Role) (greet : Bool) (new : Held) → v < 65 → new.written ≡ []
+pub joined_shows : (standing : Standing) (v : ℕ) (name : List ℕ) (runs : RectForm) (role : Role) (greet : Bool) (new : Held) → v < 65 → new.written ≡ []
     → ((s : Setup) → s.w ≡ standing.screen.width → s.h ≡ standing.screen.height → s.name ≡ name → s.runs ≡ runs → s.host ≡ None → s.zrle ≡ false → Stands s new.session (new_viewer role greet))
     → ShowsUnder name runs (Join v role greet) standing (with_place standing v new)
 joined_shows standing v name runs role greet new within written stands s w named formed untold plain shown =

@@ -6,7 +6,7 @@ use Rattle.viewer_session.specs.Session.{State, IsFeeding, marks_in}
 use Rattle.roles.specs.Strokes.{Taken, unbroken, passes_after, StrokesKept, StrokesStand}
 use Rattle.roles.proofs.StrokesLaws.{unbroken_more}
 use Rattle.reflect_world.specs.Schedule.{Relayed, taken_from, told_of}
-use Rattle.reflect_world.specs.declared.relay.Entry as declared
+use Rattle.reflect_world.specs.declared.relay.RelayedInput as declared
 use Rattle.reflect_world.specs.Relay.{KeepsStrokes, Tells, inputs_told, relayed_in, spelled, takes_from}
 use Rattle.roles.specs.Spelling.{input_bytes}
 
@@ -39,15 +39,15 @@ strokes_on xs x old new k same stands = record { stands = subst (λ ts. StrokesS
 pub told_if : (taken : List Taken) (t : Taken) (new : StrokesKept) (before after : List ℕ) (passed : Bool) → passed ≡ passes_after (unbroken taken) t → after ≡ before ++ cond passed (input_bytes t.input) [] → StrokesStand new (taken ++ t ∷ []) → Tells taken t new before after
 told_if taken t new before after passed value said stands = record { said = said ∙ ap (λ b. before ++ cond b (input_bytes t.input) []) value; stands = stands }
 
-there : (entries : List declared.Entry) (k : ℕ) (entry : declared.Entry) → k < length entries → entry ≡ slice_index_or entries k entry → slice_index_or (map relayed_in entries) k (relayed_in entry) ≡ relayed_in entry
+there : (entries : List declared.RelayedInput) (k : ℕ) (entry : declared.RelayedInput) → k < length entries → entry ≡ slice_index_or entries k entry → slice_index_or (map relayed_in entries) k (relayed_in entry) ≡ relayed_in entry
 there entries k entry lt at = get_or-map relayed_in entries k entry (relayed_in entry) lt ∙ ap relayed_in (sym at)
 
-pub one_more : (entries : List declared.Entry) (k : ℕ) (entry : declared.Entry) → k < length entries → entry ≡ slice_index_or entries k entry
+pub one_more : (entries : List declared.RelayedInput) (k : ℕ) (entry : declared.RelayedInput) → k < length entries → entry ≡ slice_index_or entries k entry
     → take (k + 1) (map relayed_in entries) ≡ take k (map relayed_in entries) ++ relayed_in entry ∷ []
 one_more entries k entry lt at =
     take_more (map relayed_in entries) k (relayed_in entry) (subst (λ n. k < n) (sym (length-map entries relayed_in)) lt) ∙ ap (λ x. take k (map relayed_in entries) ++ x ∷ []) (there entries k entry lt at)
 
-pub one_less : (entries : List declared.Entry) (k : ℕ) (entry : declared.Entry) → k < length entries → entry ≡ slice_index_or entries k entry
+pub one_less : (entries : List declared.RelayedInput) (k : ℕ) (entry : declared.RelayedInput) → k < length entries → entry ≡ slice_index_or entries k entry
     → drop k (map relayed_in entries) ≡ relayed_in entry ∷ drop (k + 1) (map relayed_in entries)
 one_less entries k entry lt at =
     drop_more (map relayed_in entries) k (relayed_in entry) (subst (λ n. k < n) (sym (length-map entries relayed_in)) lt) ∙ ap (λ x. x ∷ drop (k + 1) (map relayed_in entries)) (there entries k entry lt at)

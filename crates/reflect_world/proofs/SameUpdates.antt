@@ -8,7 +8,7 @@ use Rattle.raster.specs.declared.rect.Rect.{Rect}
 use Rattle.raster.specs.declared.size.Size.{Size}
 use Rattle.raster.specs.Screen.{IsWithin, common, meets, opening, tile_count, tile_rect, whole_screen}
 use Rattle.raster.specs.Update.{Update, bells, screen}
-use Rattle.joined_runs.specs.declared.runs.Runs.{Runs}
+use Rattle.joined_runs.specs.declared.rect_form.RectForm.{RectForm}
 use Rattle.rfb_wire.specs.Writing.{bell_bytes, update_bytes}
 use Rattle.tiles.specs.Touched.{bell_or_text, is_due_since, last_sent, runs, touches}
 use Rattle.tiles.proofs.RunLaws.{runs_within}
@@ -48,7 +48,7 @@ sent_same w h es us vs area same =
 
 -- ---- the answer
 
-answer_same : (form : Runs) (w h : ℕ) (es : List Entry) (us vs : List Update) (area : Rect) (sent : Bool) → IsWithin area w h → AreSameFrom w h opening opening us vs
+answer_same : (form : RectForm) (w h : ℕ) (es : List Entry) (us vs : List Update) (area : Rect) (sent : Bool) → IsWithin area w h → AreSameFrom w h opening opening us vs
     → answer_bytes (style_of form es) (screen us) sent (runs w h area (due_tile w h es us)) ≡ answer_bytes (style_of form es) (screen vs) sent (runs w h area (due_tile w h es vs))
 answer_same form w h es us vs area sent on same =
     let rs : List Rect = runs w h area (due_tile w h es us) in
@@ -56,7 +56,7 @@ answer_same form w h es us vs area sent on same =
     (each_same (screen us) (screen vs) w h rs (runs_within w h area (due_tile w h es us) on) (λ x y lx ly e. same_shows w h opening opening us vs same x y lx ly)))
     ∙ ap (answer_bytes (style_of form es) (screen vs) sent) (same_runs.runs_same w h area (due_tile w h es us) (due_tile w h es vs) (due_same w h es us vs same))
 
-update_same : (form : Runs) (w h : ℕ) (es : List Entry) (us vs : List Update) (o : Option Rect) → pending (events w h es) ≡ o → AreSameFrom w h opening opening us vs
+update_same : (form : RectForm) (w h : ℕ) (es : List Entry) (us vs : List Update) (o : Option Rect) → pending (events w h es) ≡ o → AreSameFrom w h opening opening us vs
     → update_for form w h es us (clipped_to (told_of w h es) o) ≡ update_for form w h es vs (clipped_to (told_of w h es) o)
 update_same form w h es us vs None e same = refl
 update_same form w h es us vs (Some whole) e same =
@@ -72,7 +72,7 @@ update_same form w h es us vs (Some whole) e same =
     found : Bool → Rect → List ℕ → Option (Rect × List ℕ)
     found b area bytes = if b then Some (area, bytes) else None
 
-update_at_same : (form : Runs) (w h : ℕ) (es : List Entry) (us vs : List Update) → AreSameFrom w h opening opening us vs → update_at form w h es us ≡ update_at form w h es vs
+update_at_same : (form : RectForm) (w h : ℕ) (es : List Entry) (us vs : List Update) → AreSameFrom w h opening opening us vs → update_at form w h es us ≡ update_at form w h es vs
 update_at_same form w h es us vs same = update_same form w h es us vs (pending (events w h es)) refl same
 
 -- ---- Bells and texts
@@ -92,12 +92,12 @@ text_same us vs (Some n) same = ap (newer_text n) (same_texts None 1 us vs same)
 size_same : (w h : ℕ) (host : Option Size) (es : List Entry) (us vs : List Update) → AreSameFrom w h opening opening us vs → size_at w h host es us ≡ size_at w h host es vs
 size_same w h host es us vs same = ap (λ (last : Option Size). size_for w h host (choice_of es).resizes (told_of w h es) last (pending (events w h es))) (same_sizes None us vs same.kinds)
 
-part_same : (form : Runs) (w h : ℕ) (host : Option Size) (es : List Entry) (us vs : List Update) → AreSameFrom w h opening opening us vs
+part_same : (form : RectForm) (w h : ℕ) (host : Option Size) (es : List Entry) (us vs : List Update) → AreSameFrom w h opening opening us vs
     → size_or_update (size_at w h host es us) (update_at form w h es us) ≡ size_or_update (size_at w h host es vs) (update_at form w h es vs)
 part_same form w h host es us vs same =
     ap (λ size. size_or_update size (update_at form w h es us)) (size_same w h host es us vs same) ∙ ap (size_or_update (size_at w h host es vs)) (update_at_same form w h es us vs same)
 
-said_same : (form : Runs) (w h : ℕ) (host : Option Size) (es : List Entry) (us vs : List Update) → AreSameFrom w h opening opening us vs → sent_at form w h host es us ≡ sent_at form w h host es vs
+said_same : (form : RectForm) (w h : ℕ) (host : Option Size) (es : List Entry) (us vs : List Update) → AreSameFrom w h opening opening us vs → sent_at form w h host es us ≡ sent_at form w h host es vs
 said_same form w h host es us vs same =
     let last : Option ℕ = news_since w h es in
     let part : List ℕ = size_or_update (size_at w h host es us) (update_at form w h es us) in
@@ -105,7 +105,7 @@ said_same form w h host es us vs same =
     ∙ (ap (λ (ts : List ℕ). bell_at vs last ++ ts ++ part) (text_same us vs last same.kinds)
     ∙ ap (λ (bytes : List ℕ). bell_at vs last ++ text_at vs last ++ bytes) (part_same form w h host es us vs same))
 
-record_same : (form : Runs) (w h : ℕ) (host : Option Size) (es : List Entry) (us vs : List Update) → AreSameFrom w h opening opening us vs → record_after_cut form w h host es us ≡ record_after_cut form w h host es vs
+record_same : (form : RectForm) (w h : ℕ) (host : Option Size) (es : List Entry) (us vs : List Update) → AreSameFrom w h opening opening us vs → record_after_cut form w h host es us ≡ record_after_cut form w h host es vs
 record_same form w h host es us vs same =
     ap (λ n. told_at n (size_at w h host es us) (update_at form w h es us) (MadeCut n ∷ es)) same.count
     ∙ (ap (λ size. told_at (length vs) size (update_at form w h es us) (MadeCut (length vs) ∷ es)) (size_same w h host es us vs same)

@@ -20,7 +20,7 @@ use Rattle.viewer_session.specs.Record.{Entry, Took, Saw, events}
 use Rattle.viewer_session.specs.Turn.{has_reason}
 use Rattle.viewer_session.specs.Viewer.{Setup, Viewer, after_bytes, after_byte, after_cut, after_hello, after_reading, with_input, marked, viewer_fault, is_greeted, may_look, out_bytes}
 use Rattle.reflect_world.proofs.NextHosts.{next_either}
-use Rattle.reflect_world.specs.Schedule.{Act, ByViewer, World, Relayed, Step, HostBytes, Put, Raise, Join, Bytes, Look, Cut, Written, Send, Take, Part, beginning, happens, play, play_from, put_next, set_viewer, with_act, for_viewer, look_at, cut_at, send_waiting, take_first, leaves_behind, Next, next_update, fault_now}
+use Rattle.reflect_world.specs.Schedule.{Act, ByViewer, World, Relayed, Step, HostBytes, Put, Raise, Join, Bytes, Look, Cut, Written, Send, Take, Leave, beginning, happens, play, play_from, put_next, set_viewer, with_act, for_viewer, look_at, cut_at, send_waiting, take_first, leaves_behind, Next, next_update, fault_now}
 use Rattle.reflect_world.specs.Headline.{CanLook, is_step_of, IsReason, CanCut, CanAct, Adds, HasEachStep}
 use Rattle.roles.specs.Held.{input_for}
 
@@ -98,7 +98,7 @@ other_step s w v (Cut u) apart = other_for w v (w.viewers u) _ (λ p. other_cut 
 other_step s w v (Written u n) apart = other_for w v (w.viewers u) _ (λ p. other_set w u v _ apart)
 other_step s w v (Send u) apart = other_for w v (w.viewers u) _ (λ p. other_send s w u v p p.waiting apart)
 other_step s w v Take apart = other_take w v w.queue
-other_step s w v (Part u) apart = other_for w v (w.viewers u) _ (λ p. other_set w u v None apart)
+other_step s w v (Leave u) apart = other_for w v (w.viewers u) _ (λ p. other_set w u v None apart)
 
 other_steps : (s : Setup) (w : World) (v : ℕ) (es : List Step) → list_any (is_step_of v) es ≡ false → (play_from s w es).viewers v ≡ w.viewers v
 other_steps s w v [] apart = refl
@@ -220,7 +220,7 @@ reply_step s w v t (Cut u) is k = is_none_of _ t _ (no_reply_for w u v _ is (λ 
 reply_step s w v t (Written u n) is k = is_none_of _ t _ (no_reply_for w u v _ is (λ p. mine w u v _ is)) k
 reply_step s w v t (Send u) is k = is_none_of _ t _ (no_reply_for w u v _ is (λ p. no_reply_send s w u v p p.waiting is)) k
 reply_step s w v t Take is k = absurd cc
-reply_step s w v t (Part u) is k = is_none_of _ t _ (no_reply_for w u v _ is (λ p. mine (record w { queue = w.queue ++ take (s.room - length w.queue) (leaves_behind u p) }) u v None is)) k
+reply_step s w v t (Leave u) is k = is_none_of _ t _ (no_reply_for w u v _ is (λ p. mine (record w { queue = w.queue ++ take (s.room - length w.queue) (leaves_behind u p) }) u v None is)) k
 
 -- So where there is a reply, there was that Look.
 looked_none : (s : Setup) → Looked s []
@@ -334,7 +334,7 @@ taken s before (Cut v) act can = cut_taken_if s before v can.0 ∙ ap (λ (a : A
 taken s before (Written v n) act can = absurd can
 taken s before (Send v) act can = absurd can
 taken s before Take act can = absurd can
-taken s before (Part v) act can = absurd can
+taken s before (Leave v) act can = absurd can
 
 abbrev IsIdle : World → World → Type 0
 IsIdle old new = (new.acts ≡ old.acts) × (new.shared ≡ old.shared)
@@ -379,7 +379,7 @@ idle s before (Cut v) f = idle_for (play s before) ((play s before).viewers v) _
 idle s before (Written v n) f = idle_for (play s before) ((play s before).viewers v) _ (λ p there. (refl, refl))
 idle s before (Send v) f = idle_for (play s before) ((play s before).viewers v) _ (λ p there. idle_send s (play s before) v p p.waiting)
 idle s before Take f = idle_take (play s before) (play s before).queue
-idle s before (Part v) f = idle_for (play s before) ((play s before).viewers v) _ (λ p there. (refl, refl))
+idle s before (Leave v) f = idle_for (play s before) ((play s before).viewers v) _ (λ p there. (refl, refl))
 
 -- A step of a viewer that isn't there.
 abbrev IsAbsent : World → World → ℕ → Step → Type 0
@@ -400,7 +400,7 @@ absent s w v (Cut u) is none = inl (absent_for w u v _ is none)
 absent s w v (Written u n) is none = inl (absent_for w u v _ is none)
 absent s w v (Send u) is none = inl (absent_for w u v _ is none)
 absent s w v Take is none = absurd cc
-absent s w v (Part u) is none = inl (absent_for w u v _ is none)
+absent s w v (Leave u) is none = inl (absent_for w u v _ is none)
 
 pub has_each_step : (s : Setup) (es : List Step) → HasEachStep s es
 has_each_step s es before after e split =

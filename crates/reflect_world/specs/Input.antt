@@ -8,7 +8,7 @@ use Rattle.reflect_core.specs.Sequential.{Begins}
 use Rattle.viewer_session.specs.Acts.{waiting_list}
 use Rattle.viewer_session.specs.Record.{messages_in}
 use Rattle.viewer_session.specs.Viewer.{Setup, Viewer}
-use Rattle.reflect_world.specs.Schedule.{Relayed, World, Step, HostBytes, Put, Raise, Join, Bytes, Look, Cut, Written, Send, Take, Part, leaves_behind, play, taken_from, told_of, Next}
+use Rattle.reflect_world.specs.Schedule.{Relayed, World, Step, HostBytes, Put, Raise, Join, Bytes, Look, Cut, Written, Send, Take, Leave, leaves_behind, play, taken_from, told_of, Next}
 
 -- What was relayed, in order: what was taken for the host, and then what is in the queue.
 abbrev pub all_relayed : World → List Relayed
@@ -35,13 +35,13 @@ bounds_stay v (Cut u) = false
 bounds_stay v (Written u count) = false
 bounds_stay v (Send u) = false
 bounds_stay v Take = false
-bounds_stay v (Part u) = v == u
+bounds_stay v (Leave u) = v == u
 
 -- Where the viewer leaves now, its inputs that were relayed in this stay are a beginning of all that is allowed of it,
 -- releases included. Where the queue has room, they are all of that.
 pub record LeavesAllowed (s : Setup) (before es : List Step) (v : ℕ) (p : Viewer) : Type 0 where
   pub sent : List Input
-  pub relayed : relayed_by v (play s (es ++ Part v ∷ [])) ≡ relayed_by v (play s before) ++ sent
+  pub relayed : relayed_by v (play s (es ++ Leave v ∷ [])) ≡ relayed_by v (play s before) ++ sent
   pub begins : Begins sent (allowed p.role (messages_in p.entries) true)
   pub whole : length (play s es).queue + length (leaves_behind v p) ≤ s.room → sent ≡ allowed p.role (messages_in p.entries) true
 

@@ -6,14 +6,14 @@ use Rattle.roles.specs.Held.{input_in}
 use Rattle.roles.specs.Spelling.{input_bytes}
 use Rattle.roles.specs.Strokes.{Taken, unbroken, passes_after, StrokesKept, StrokesStand}
 use Rattle.reflect_world.specs.Schedule.{Relayed, taken_from, told_of}
-use Rattle.reflect_world.specs.declared.relay.Entry as declared
+use Rattle.reflect_world.specs.declared.relay.RelayedInput as declared
 
 -- The spellings of inputs, one after another.
 abbrev pub spelled : List Input → List ℕ
 spelled inputs = flat_map input_bytes inputs
 
 -- The input of a viewer for which an entry in the code stands.
-abbrev pub relayed_in : declared.Entry → Relayed
+abbrev pub relayed_in : declared.RelayedInput → Relayed
 relayed_in entry = record { viewer = entry.viewer; input = input_in entry.input }
 
 -- The queue, what was taken of it, and for how many more inputs there is memory.

@@ -5,7 +5,7 @@ use Rattle.fault.specs.declared.kinds.Fault.TheVariants.{Memory, NumbersOut}
 use Rattle.raster.specs.Screen.{opening}
 use Rattle.raster.specs.Size.{IsScreenSize}
 use Rattle.raster.specs.Update.{Update}
-use Rattle.joined_runs.specs.declared.runs.Runs.{Runs}
+use Rattle.joined_runs.specs.declared.rect_form.RectForm.{RectForm}
 use Rattle.painter.specs.Same.{AreSameFrom}
 use Rattle.reflect_core.specs.Plain.{Plain}
 use Rattle.roles.specs.Allowed.{Input}
@@ -16,15 +16,15 @@ use Rattle.viewer_session.specs.Turn.{has_reason}
 use Rattle.viewer_session.specs.Viewer.{Setup, Viewer, out_bytes, after_bytes, after_cut, may_look, viewer_fault}
 use Rattle.reflect_world.specs.Relay.{RelaySide}
 use Rattle.host_decoder.specs.Hosts.{ended_updates}
-use Rattle.reflect_world.specs.Schedule.{Step, World, HostBytes, Put, Raise, Join, Bytes, Look, Cut, Written, Send, Take, Part, happens, play, Next}
+use Rattle.reflect_world.specs.Schedule.{Step, World, HostBytes, Put, Raise, Join, Bytes, Look, Cut, Written, Send, Take, Leave, happens, play, Next}
 use Rattle.reflect_world.specs.Host.{HasReadTo, HostSide, HostStands, IsSameHost}
 use Rattle.reflect_world.specs.Headline.{Holds}
 use Rattle.reflect_world.specs.Input.{RelaysAllowed}
 use Rattle.reflect_world.specs.Said.{ArePutInOrder, HoldsAfterEachWritten, IsRead, IsSaid}
 use Rattle.reflect_world.specs.declared.step.Step as declared_step
 use Rattle.reflect_world.specs.declared.step.Step.TheVariants as code
-use Rattle.reflect_world.specs.declared.step.Entry as declared_entry
-use Rattle.reflect_world.specs.declared.step.Entry.TheVariants as kept
+use Rattle.reflect_world.specs.declared.step.ScheduleEntry as declared_entry
+use Rattle.reflect_world.specs.declared.step.ScheduleEntry.TheVariants as kept
 
 -- ---- steps
 
@@ -61,9 +61,9 @@ unmarked (Bytes viewer bytes lost) = Bytes viewer bytes []
 unmarked e = e
 
 -- The step that an entry of the world's list stands for.
-abbrev pub entry_of : declared_entry.Entry → Step
+abbrev pub entry_of : declared_entry.ScheduleEntry → Step
 entry_of (kept.Joined viewer role greet) = Join viewer role greet
-entry_of (kept.Parted viewer) = Part viewer
+entry_of (kept.Left viewer) = Leave viewer
 entry_of (kept.Played step lost) = step_with step lost.items
 
 -- ---- what contracts see of a world
@@ -75,7 +75,7 @@ pub record Kept : Type 0 where
   pub height : ℕ
   pub name : List ℕ
   pub room : ℕ
-  pub runs : Runs
+  pub runs : RectForm
   pub steps : List Step
   pub is_refused : Bool
 
@@ -263,7 +263,7 @@ abbrev pub TakesStep : Step → Standing → Standing → Type 0
 TakesStep e old new = (s : Setup) (w : World) → Reached s old w → Reached s new (happens s w e)
 
 -- The same as TakesStep, for a screen with this name, whose viewers are answered in this form and are told of no sizes.
-abbrev pub JoinsUnder : List ℕ → Runs → Step → Standing → Standing → Type 0
+abbrev pub JoinsUnder : List ℕ → RectForm → Step → Standing → Standing → Type 0
 JoinsUnder name runs e old new = (s : Setup) (w : World) → s.name ≡ name → s.runs ≡ runs → s.host ≡ None → s.zrle ≡ false → Reached s old w → Reached s new (happens s w e)
 
 -- If the old fields stood for a world, the new ones stand for it, too.
@@ -281,7 +281,7 @@ Leaves old new fault = StaysSeen old new × (fault ≡ NumbersOut → StaysFor o
 
 -- If the old fields showed a world, the new ones show what this step makes of it, for a screen with this name, whose
 -- viewers are answered in this form and are told of no sizes.
-abbrev pub ShowsUnder : List ℕ → Runs → Step → Standing → Standing → Type 0
+abbrev pub ShowsUnder : List ℕ → RectForm → Step → Standing → Standing → Type 0
 ShowsUnder name runs e old new = (s : Setup) (w : World) → s.name ≡ name → s.runs ≡ runs → s.host ≡ None → s.zrle ≡ false → Shows s old w → Shows s new (happens s w e)
 
 -- The same as ShowsUnder, whatever the name and the form.

@@ -10,7 +10,7 @@ ghost use Rattle.reflect_world.specs.World.{GoesOn, HasLooked, HasSent, IsBroken
 
 use crate::unread::Unread;
 use fault::Fault;
-use joined_runs::Runs;
+use joined_runs::RectForm;
 use reflect_core::PlainScreen;
 use roles::{Input, Role};
 use std::alloc::Global;
@@ -49,7 +49,7 @@ impl Place {
         height: u64,
         name: &[u8],
         role: Role,
-        runs: Runs,
+        runs: RectForm,
         greet: bool,
     ) -> Result<Self, Fault>
         requires size { IsScreenSize width height }

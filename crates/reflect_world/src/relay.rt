@@ -19,7 +19,7 @@ use std::marker::Model;
 
 /// An input, and the number of the viewer that it came from.
 #[derive(Drop)]
-pub(crate) struct Entry {
+pub(crate) struct RelayedInput {
     viewer: u64,
     input: Input,
 }
@@ -28,7 +28,7 @@ pub(crate) struct Entry {
 /// pass to the host; and the bytes that it was sent.
 #[derive(Drop)]
 pub(crate) struct Relay {
-    entries: Vec<Entry>,
+    entries: Vec<RelayedInput>,
     taken: usize,
     strokes: Strokes,
     sent: Vec<u8>,
@@ -108,7 +108,7 @@ impl Relay {
         ensures taken { self.new.taken ≡ self.old.taken }
         ensures spare { self.old.spare ≤ self.new.spare + 1 }
     {
-        let Ok(()) = self.entries.push(Entry { viewer, input }) else {
+        let Ok(()) = self.entries.push(RelayedInput { viewer, input }) else {
             unreachable!()
         };
     }

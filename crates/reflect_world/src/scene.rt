@@ -7,7 +7,7 @@ ghost use Rattle.fault.specs.declared.kinds.Fault.TheVariants.{Memory};
 ghost use Rattle.raster.specs.Size.{IsScreenSize};
 ghost use Rattle.roles.specs.Strokes.{dropped};
 ghost use Rattle.viewer_session.specs.Viewer.{Setup};
-ghost use Rattle.reflect_world.specs.Schedule.{Put, Raise, Join, HostBytes, Bytes, Look, Cut, Written, Send, Take, Part, beginning, taken_from, Next};
+ghost use Rattle.reflect_world.specs.Schedule.{Put, Raise, Join, HostBytes, Bytes, Look, Cut, Written, Send, Take, Leave, beginning, taken_from, Next};
 ghost use Rattle.reflect_core.specs.Plain.{IsPutRefusal};
 ghost use Rattle.reflect_world.specs.World.{waits_at, IsPut, IsReachable, IsRefusal, IsSeen, JoinsUnder, Leaves, Reached, ShowsStep, ShowsUnder, StaysSeen, TakesStep, left_by, place_at, step_of, step_with, IsUnread, StaysFor};
 
@@ -16,7 +16,7 @@ use crate::place::Place;
 use crate::relay::Relay;
 use crate::step::Step;
 use fault::Fault;
-use joined_runs::Runs;
+use joined_runs::RectForm;
 use painter::Patch;
 use reflect_core::{PlainScreen, Puts, ScreenSource};
 use roles::Role;
@@ -109,7 +109,7 @@ impl Scene {
         viewer: u64,
         role: Role,
         name: &[u8],
-        runs: Runs,
+        runs: RectForm,
         greet: bool,
     ) -> Result<(), Fault>
         requires there { viewer < 65 }
@@ -129,10 +129,10 @@ impl Scene {
 
     /// A viewer leaves, if it is there: its waiting input and the releases of what it holds down go into the queue, as
     /// far as there is room. Where memory is refused (`Memory`) nothing has changed.
-    pub(crate) fn part(&mut self, viewer: u64) -> Result<(), Fault>
+    pub(crate) fn leave(&mut self, viewer: u64) -> Result<(), Fault>
         requires seen { IsSeen self.old }
-        ensures ok { OnOk result (TakesStep (Part viewer) self.old self.new) }
-        ensures shows { OnOk result (ShowsStep (Part viewer) self.old self.new) }
+        ensures ok { OnOk result (TakesStep (Leave viewer) self.old self.new) }
+        ensures shows { OnOk result (ShowsStep (Leave viewer) self.old self.new) }
         ensures err { IfErr result (λ fault. (fault ≡ Memory) × (self.new ≡ self.old)) }
     {
         if viewer >= PLACES {

@@ -39,11 +39,11 @@ pub enum Step {
 /// An entry of the schedule that a world keeps: a viewer joined or left, or a step was played, with marks for the texts
 /// of a viewer that it completed.
 #[derive(Drop)]
-pub(crate) enum Entry {
+pub(crate) enum ScheduleEntry {
     /// A viewer of this number and role joined: with its hello where the last field is true, otherwise after it.
     Joined(u64, Role, bool),
     /// The viewer of this number left.
-    Parted(u64),
+    Left(u64),
     /// This step was played. The marks say of each text that it completed whether the text found no memory.
     Played(Step, Vec<bool>),
 }

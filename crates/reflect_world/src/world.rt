@@ -5,13 +5,13 @@ ghost use Rattle.fault.specs.declared.kinds.Fault.TheVariants.{Memory};
 ghost use Rattle.raster.specs.Size.{IsScreenSize};
 ghost use Rattle.reflect_world.specs.Relay.{spelled};
 ghost use Rattle.reflect_world.specs.Schedule as played;
-ghost use Rattle.reflect_world.specs.Schedule.{Join, Part, dropped_of, fault_at, host_sent, written_of};
+ghost use Rattle.reflect_world.specs.Schedule.{Join, Leave, dropped_of, fault_at, host_sent, written_of};
 ghost use Rattle.reflect_world.specs.World.{HasPlayed, HasStopped, IsFaithful, StopsAt, has_waiting, setup_of, step_of, unmarked, with_steps, world_of};
 
 use crate::scene::Scene;
-use crate::step::{Entry, Step};
+use crate::step::{ScheduleEntry, Step};
 use fault::Fault;
-use joined_runs::Runs;
+use joined_runs::RectForm;
 use roles::Role;
 use std::alloc::Global;
 use std::marker::Model;
@@ -24,8 +24,8 @@ pub struct World {
     height: u64,
     name: Vec<u8>,
     room: u64,
-    runs: Runs,
-    schedule: Vec<Entry>,
+    runs: RectForm,
+    schedule: Vec<ScheduleEntry>,
     is_refused: bool,
     scene: Scene,
 }
@@ -67,7 +67,7 @@ impl World {
         height: u64,
         name: &[u8],
         room: u64,
-        runs: Runs,
+        runs: RectForm,
     ) -> Result<World, Fault>
         requires size { IsScreenSize width height }
         requires name { (1 ≤ length name.now) × (length name.now ≤ 255) }
@@ -106,7 +106,10 @@ impl World {
         ensures ok { OnOk result (self.new ≡ with_steps self.old (Join viewer role greet ∷ [])) }
         ensures err { IfErr result (λ fault. (fault ≡ Memory) × (self.new ≡ self.old)) }
     {
-        let Ok(()) = self.schedule.push(Entry::Joined(viewer, role, greet)) else {
+        let Ok(()) = self
+            .schedule
+            .push(ScheduleEntry::Joined(viewer, role, greet))
+        else {
             return Err(Fault::Memory);
         };
         match self
@@ -125,14 +128,14 @@ impl World {
     /// A viewer leaves, if it is there: the input of it that waits, and the releases of the keys and buttons that it
     /// holds down, go into the queue to the host, as far as there is room, and its record ends. Where memory is refused
     /// (`Memory`) nothing has changed.
-    pub fn part(&mut self, viewer: u64) -> Result<(), Fault>
-        ensures ok { OnOk result (self.new ≡ with_steps self.old (Part viewer ∷ [])) }
+    pub fn leave(&mut self, viewer: u64) -> Result<(), Fault>
+        ensures ok { OnOk result (self.new ≡ with_steps self.old (Leave viewer ∷ [])) }
         ensures err { IfErr result (λ fault. (fault ≡ Memory) × (self.new ≡ self.old)) }
     {
-        let Ok(()) = self.schedule.push(Entry::Parted(viewer)) else {
+        let Ok(()) = self.schedule.push(ScheduleEntry::Left(viewer)) else {
             return Err(Fault::Memory);
         };
-        match self.scene.part(viewer) {
+        match self.scene.leave(viewer) {
             Ok(()) => Ok(()),
             Err(fault) => {
                 // The entry that was just pushed, and is known.
@@ -242,7 +245,7 @@ impl World {
         let mut lost = Vec::new(self.alloc);
         match self.scene.take(step, &mut lost) {
             Ok(()) => {
-                let Ok(()) = self.schedule.push(Entry::Played(copy, lost)) else {
+                let Ok(()) = self.schedule.push(ScheduleEntry::Played(copy, lost)) else {
                     unreachable!()
                 };
                 Ok(())

@@ -2,7 +2,7 @@
 use Rattle.std.specs.Prelude.{◌≤◌, ℕ, false, List, [], Option, None, Ok, ⊤}
 use Rattle.raster.specs.Update.{Update}
 use Rattle.rfb_wire.specs.Handshake.{Joined}
-use Rattle.joined_runs.specs.declared.runs.Runs.TheVariants.{OfRows}
+use Rattle.joined_runs.specs.declared.rect_form.RectForm.TheVariants.{OfRows}
 use Rattle.viewer_session.specs.declared.form.AnswerForm.{AnswerForm}
 use Rattle.roles.specs.declared.role.Role.{Role}
 use Rattle.link.specs.Links.{LinkState}

@@ -52,22 +52,22 @@ impl InputCounts {
 
 /// The number of dropped inputs, as the thread that tells the hosts counts them, and the place where others read it.
 #[derive(Drop)]
-pub(crate) struct Untold {
+pub(crate) struct DropCounter {
     pub(crate) count: u64,
     watch: Arc<InputCounts, Global>,
 }
 
-impl Untold {
+impl DropCounter {
     /// A count of 0, which others read in these counts.
-    pub(crate) fn new(watch: Arc<InputCounts, Global>) -> Untold
+    pub(crate) fn new(watch: Arc<InputCounts, Global>) -> DropCounter
         ensures { result.count ≡ 0 }
     {
-        Untold { count: 0, watch }
+        DropCounter { count: 0, watch }
     }
 }
 
-impl DropCount for Untold {
-    ghost dropped = { λ untold. untold.count };
+impl DropCount for DropCounter {
+    ghost dropped = { λ drops. drops.count };
 
     fn count_one(&mut self) {
         self.count = LIMIT.min(self.count.saturating_add(1));

@@ -8,21 +8,22 @@
 
 mod context;
 mod counted;
+mod handover_taker;
 mod input_counts;
 mod join;
 mod law;
+mod named_sender;
 mod no_sender;
 mod place;
 mod ran;
 mod reader;
 mod run;
-mod seated;
 mod session_maker;
 mod stages;
 mod teller;
-mod turns;
 mod writer;
 
+pub use handover_taker::CameLink;
 pub use input_counts::InputCounts;
 pub use join::join_place;
 pub use law::{
@@ -36,4 +37,3 @@ pub use run_traits::Written;
 pub use session_maker::SessionMaker;
 pub use stages::{BusyPlace, FreePlace, Key, LeftPlace, MetPlace, PlaceBeginning};
 pub use teller::{BusyTeller, FreeTeller, TellerBeginning, TellerKey};
-pub use turns::CameLink;

@@ -9,8 +9,8 @@ ghost use Rattle.reflector.specs.Senders.{IsSameSender};
 ghost use Rattle.reflector.specs.Visits.{HasVisits, IsReceived, at, setup_of};
 
 use crate::context::RunContext;
+use crate::named_sender::{NamedSender, SenderName};
 use crate::no_sender::NoSender;
-use crate::seated::{Seat, Seated};
 use crate::session_maker::SessionMaker;
 use crate::stages::{FreePlace, LeftPlace, PlaceBeginning};
 use fault::Fault;
@@ -148,7 +148,7 @@ where
 
 /// The same as `serve_viewers`, with the sender that `T` names as the sink. The alarm is rung after each of its inputs.
 fn serve_from<
-    T: Seat,
+    T: SenderName,
     S: ScreenSource,
     D: Door,
     W: Alarm + Drop,
@@ -176,7 +176,7 @@ fn serve_from<
         maker.now.host) maker.now.role source_old source_new sent_old sent_new why left)
         (at door source (inputs_of sender)) (at result.0 result.2 (inputs_of result.1)) }
 {
-    let inner: Seated<T, R> = Seated::new(sender);
+    let inner: NamedSender<T, R> = NamedSender::new(sender);
     let sink = Ringing { inner, alarm };
     let first = PlaceBeginning::of(&door, &source, &sink);
     let place = FreePlace::new(&first, maker, stop, door, source, sink);

@@ -12,7 +12,7 @@ ghost use Rattle.host_writer.specs.Writing.{Tells, whole_request};
 ghost use Rattle.reflector.specs.Tellings.{AreToldInTurn, HasTold, IsTelling, desk};
 ghost use Rattle.run_traits.specs.Written.{links_in};
 
-use crate::turns::CameLink;
+use crate::handover_taker::CameLink;
 use fault::Fault;
 use host_writer::{DropCount, InputSource, TellBeginning, Telling};
 use link::Link;

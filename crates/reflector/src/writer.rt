@@ -9,9 +9,9 @@ ghost use Rattle.reflector.specs.Tellings.{HasTold, desk};
 ghost use Rattle.run_traits.specs.Written.{links_in};
 
 use crate::context::RunContext;
-use crate::input_counts::{InputCounts, Untold};
+use crate::handover_taker::HandoverTaker;
+use crate::input_counts::{DropCounter, InputCounts};
 use crate::teller::{FreeTeller, TellerBeginning};
-use crate::turns::Turns;
 use fault::Fault;
 use host_turns::Handover;
 use host_writer::{DropCount, InputSource, run_writer};
@@ -70,7 +70,7 @@ pub(crate) type WriterHandle<L, S, R> = PromisedHandle<HostsTold<L, R>, OfTaker<
 fn write<'a, L, W, S, K, D, T, Z, R>(
     rt: &R,
     free: FreeTeller<'a, L, S, K, D, T>,
-    turns: &Turns<L, W>,
+    handed: &HandoverTaker<L, W>,
     rest: &Z,
 ) -> FreeTeller<'a, L, S, K, D, T>
 where
@@ -92,22 +92,22 @@ where
 {
     let mut idle = free;
     for _ in rt.forever() {
-        let Some(came) = turns.next(rt) else {
+        let Some(came) = handed.next(rt) else {
             return idle;
         };
-        let turn = turns.turn_of(&came);
+        let left_flag = handed.left_flag(&came);
         let began = idle.beginning(&came);
         let (busy, mut telling) = idle.meet(came, &began);
-        let why = run_writer(rt, &mut telling, &turn, rest);
+        let why = run_writer(rt, &mut telling, &left_flag, rest);
         idle = busy.close(telling, why);
     }
     unreachable!()
 }
 
-/// Tells the hosts whose turns these are, as `write` does.
+/// Tells the hosts whose links are handed over, as `write` does.
 fn tell<L: Link, W: Alarm + Drop, S: ScreenSource + Drop, Z: Rest, R: Wait + Drop>(
     rt: &R,
-    turns: Turns<L, W>,
+    handed: HandoverTaker<L, W>,
     source: S,
     taker: Taker<R>,
     strokes: Strokes,
@@ -121,24 +121,24 @@ fn tell<L: Link, W: Alarm + Drop, S: ScreenSource + Drop, Z: Rest, R: Wait + Dro
     ensures told { HasTold S.looks S.width S.height (desk [] source (taken_of taker) strokes)
         (links_in L.state result.written) (taken_of result.taker) result.strokes }
 {
-    let untold = Untold::new(input);
-    let first = TellerBeginning::of(&source, &taker, &strokes, &untold);
-    let free = FreeTeller::new(&first, source, taker, strokes, untold);
-    let left = write(rt, free, &turns, rest);
-    let (_, taker, strokes, untold, written) = left.into_parts(());
+    let drops = DropCounter::new(input);
+    let first = TellerBeginning::of(&source, &taker, &strokes, &drops);
+    let free = FreeTeller::new(&first, source, taker, strokes, drops);
+    let left = write(rt, free, &handed, rest);
+    let (_, taker, strokes, drops, written) = left.into_parts(());
     HostsTold {
         written,
         taker,
         strokes,
-        dropped: untold.count,
+        dropped: drops.count,
     }
 }
 
-/// A thread that tells the hosts whose turns these are. It fails where no thread can be made (`Memory`).
+/// A thread that tells the hosts whose links are handed over. It fails where no thread can be made (`Memory`).
 fn tell_beside<L, S, Z, W, R>(
     rt: R,
     rest: Arc<Z, Global>,
-    turns: Turns<L, W>,
+    handed: HandoverTaker<L, W>,
     source: S,
     taker: Taker<R>,
     strokes: Strokes,
@@ -171,7 +171,7 @@ where
             ensures told { HasTold S.looks S.width S.height
                 (desk [] source (taken_of taker) strokes) (links_in L.state result.written)
                 (taken_of result.taker) result.strokes }
-        { tell(&rt, turns, source, taker, strokes, input, &*rest) },
+        { tell(&rt, handed, source, taker, strokes, input, &*rest) },
     );
     match started {
         Ok(handle) => Ok(handle),
@@ -200,6 +200,6 @@ where
 {
     let rest = Arc::try_clone(&context.writer)?;
     let input = Arc::try_clone(&context.input)?;
-    let turns = Turns::new(handover);
-    tell_beside(context.rt, rest, turns, source, taker, strokes, input)
+    let handed = HandoverTaker::new(handover);
+    tell_beside(context.rt, rest, handed, source, taker, strokes, input)
 }

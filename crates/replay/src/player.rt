@@ -7,7 +7,7 @@ use crate::hexadecimal::shown;
 use crate::line::{Access, Line};
 use crate::reads::FewReads;
 use fault::Fault;
-use joined_runs::Runs;
+use joined_runs::RectForm;
 use reflect_world::{Step, World, play};
 use roles::Role;
 use std::alloc::{AllocError, Global};
@@ -120,7 +120,14 @@ fn play_script<B: BufRead, W: Write>(
         return Ok(false);
     }
     let (width, height, name) = screen_line(alloc, line.as_slice())?;
-    let mut world = World::new(alloc, width, height, name.as_bytes(), ROOM, Runs::OfRows)?;
+    let mut world = World::new(
+        alloc,
+        width,
+        height,
+        name.as_bytes(),
+        ROOM,
+        RectForm::OfRows,
+    )?;
     play_lines(alloc, &mut world, input, output)
 }
 
@@ -289,7 +296,7 @@ fn viewer_bytes<W: Write>(
     if let Some(fault) = world.fault(viewer) {
         let number = fault.number();
         print(output, format!(in alloc; "{viewer}: fault {number}\n")?)?;
-        world.part(viewer)?;
+        world.leave(viewer)?;
     }
     Ok(true)
 }
@@ -311,7 +318,7 @@ fn leave(world: &mut World, viewer: u64) -> Result<bool, Stop> {
     if !is_open(world, viewer) {
         return Ok(false);
     }
-    world.part(viewer)?;
+    world.leave(viewer)?;
     Ok(true)
 }
 

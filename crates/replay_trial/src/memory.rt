@@ -35,7 +35,7 @@ const WIDE: usize = 1024;
 
 /// Memory that is refused, and room for what a script prints.
 #[derive(Drop)]
-struct Trial {
+struct ScarceMemory {
     alloc: Global,
     // All memory except the reserve.
     taken: Hoard,
@@ -43,16 +43,16 @@ struct Trial {
     output: Vec<u8>,
 }
 
-impl Trial {
+impl ScarceMemory {
     /// Takes all memory except the reserve. It answers None where memory is never refused.
-    fn new(alloc: Global) -> Result<Option<Trial>, AllocError> {
+    fn new(alloc: Global) -> Result<Option<ScarceMemory>, AllocError> {
         let mut taken = Hoard::new(alloc, BLOCKS)?;
         let hoard = Hoard::new(alloc, PIECES)?;
         let output = Vec::with_capacity(alloc, PRINTED)?;
         let reserve: Vec<u8> = Vec::with_capacity(alloc, RESERVE)?;
         let is_refused = taken.take_all(SPACE);
         drop(reserve);
-        Ok(is_refused.then_some(Trial {
+        Ok(is_refused.then_some(ScarceMemory {
             alloc,
             taken,
             hoard,
@@ -115,7 +115,7 @@ pub fn refuse_growths(rt: &HostRuntime, file: &str) -> Result<(), Fail> {
         return Err(Fail::new("the system counts memory strictly"));
     }
     let text = fs::read_to_string(rt, file)?;
-    let Some(mut trial) = Trial::new(rt.alloc())? else {
+    let Some(mut memory) = ScarceMemory::new(rt.alloc())? else {
         return Err(Fail::new("no memory is refused here"));
     };
     // The first script has fine steps throughout; the others begin with much the same lines.
@@ -123,7 +123,7 @@ pub fn refuse_growths(rt: &HostRuntime, file: &str) -> Result<(), Fail> {
         let Some(case) = Case::read(part) else {
             return Err(Fail::new("no case"));
         };
-        match trial.refuse_each(&case, number == 0) {
+        match memory.refuse_each(&case, number == 0) {
             Some((places, runs)) => {
                 println!(rt;
                     "{}: refused at {places} places, each time as specified",

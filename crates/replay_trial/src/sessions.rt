@@ -4,7 +4,7 @@ ghost use Rattle.std.specs.Prelude.{◌≡◌};
 ghost use Rattle.raster.specs.Size.{IsScreenSize};
 
 use crate::act::Act;
-use joined_runs::Runs;
+use joined_runs::RectForm;
 use painter::Painter;
 use raster::{Rect, Size};
 use reflect_core::{PlainScreen, Puts, ScreenSource};
@@ -27,7 +27,7 @@ pub fn play_session<'a>(
     requires { IsScreenSize width height }
 {
     let form = AnswerForm {
-        runs: Runs::OfRows,
+        runs: RectForm::OfRows,
         zrle,
     };
     let opened = if greets {

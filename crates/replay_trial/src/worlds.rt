@@ -4,7 +4,7 @@ ghost use Rattle.raster.specs.Size.{IsScreenSize};
 
 use crate::act::Act;
 use crate::updates::{push_rows, push_tiles};
-use joined_runs::Runs;
+use joined_runs::RectForm;
 use reflect_world::{Step, World, play};
 use roles::Role;
 use std::alloc::Global;
@@ -12,7 +12,7 @@ use std::slice;
 
 /// What a line of a world is read with.
 #[derive(Drop)]
-struct Trial {
+struct WorldPlayer {
     alloc: Global,
     // All bytes that the viewer was told by now.
     told: Vec<u8>,
@@ -30,15 +30,15 @@ pub fn play_world<'a>(
 ) -> Option<&'a str>
     requires { IsScreenSize width height }
 {
-    let Ok(mut world) = World::new(alloc, width, height, b"T", 8, Runs::OfRows) else {
+    let Ok(mut world) = World::new(alloc, width, height, b"T", 8, RectForm::OfRows) else {
         return Some("no world");
     };
-    let mut trial = Trial {
+    let mut player = WorldPlayer {
         alloc,
         told: Vec::new(alloc),
         cut,
     };
-    trial.otherwise(&mut world, lines)
+    player.otherwise(&mut world, lines)
 }
 
 /// Plays one step.
@@ -46,7 +46,7 @@ fn play_one(world: &mut World, step: Step) -> bool {
     play(world, slice::from_ref(&step)).is_ok()
 }
 
-impl Trial {
+impl WorldPlayer {
     /// Plays the lines, and answers the first line that comes out otherwise.
     fn otherwise<'a>(&mut self, world: &mut World, lines: &'a str) -> Option<&'a str> {
         for line in lines.lines() {
@@ -66,7 +66,7 @@ impl Trial {
         match act.word {
             "join" => comes(world, act.number, false),
             "greet" => comes(world, act.number, true),
-            "part" => world.part(act.number).is_ok(),
+            "leave" => world.leave(act.number).is_ok(),
             "gets" => self.awaits(act) && world.written(act.number) == self.told.as_slice(),
             "singly" => self.awaits(act) && self.gets_singly(world, act.number),
             "rows" => self.awaits_rows(act.number),

@@ -8,7 +8,7 @@ use Rattle.std.proofs.lemmas.List.{append-nil, length-map, map-append}
 use Rattle.std.proofs.lemmas.List.Elements.{filter-append}
 use Rattle.raster.specs.Screen.{Canvas}
 use Rattle.raster.specs.Encoding.{Subrect, begins_run, run_from, runs_of_row}
-use Rattle.joined_runs.specs.declared.runs.Runs.TheVariants.{Joined}
+use Rattle.joined_runs.specs.declared.rect_form.RectForm.TheVariants.{Joined}
 use Rattle.joined_runs.specs.Joined.{is_below, joined_runs, with_below, written}
 use Rattle.joined_runs.proofs.WrittenParts.{written_append}
 use Rattle.rre_codec.specs.Corners.{is_corner, corners_before}

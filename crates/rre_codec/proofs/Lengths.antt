@@ -10,8 +10,8 @@ use Rattle.pixel_format.proofs.Pixels.{pixel_size}
 use Rattle.raster.specs.declared.encoding.Encoding.TheVariants.{Rre}
 use Rattle.raster.specs.Screen.{value_at}
 use Rattle.raster.specs.Encoding.{Subrect, raw_bytes, rre_subrect_bytes, runs}
-use Rattle.joined_runs.specs.declared.runs.Runs.{Runs}
-use Rattle.joined_runs.specs.declared.runs.Runs.TheVariants.{OfRows, Joined}
+use Rattle.joined_runs.specs.declared.rect_form.RectForm.{RectForm}
+use Rattle.joined_runs.specs.declared.rect_form.RectForm.TheVariants.{OfRows, Joined}
 use Rattle.joined_runs.specs.Joined.{written, form_of, saves_bytes_as}
 use Rattle.rre_codec.proofs.RunsPut.{subrect_len}
 
@@ -50,15 +50,15 @@ head_len format out v ss le =
     omega (arith, behind_len format (take 4 out ++ p) ss, length-append (take 4 out) p, length-take 4 out, pixel_size format v)
 
 -- The subrectangles that are written.
-abbrev pub subrects : Runs → ℕ → ℕ → List ℕ → List Subrect
+abbrev pub subrects : RectForm → ℕ → ℕ → List ℕ → List Subrect
 subrects form w h values = written form (value_at w values) w h (runs (value_at w values) w h)
 
-pub rre_is : (form : Runs) (format : PixelFormat) (w h : ℕ) (values : List ℕ)
+pub rre_is : (form : RectForm) (format : PixelFormat) (w h : ℕ) (values : List ℕ)
     → form_of form Rre format w h values ≡ to_be_bytes w32 (length (subrects form w h values)) ++ pixel_bytes format (value_at w values 0 0) ++ flat_map (rre_subrect_bytes format) (subrects form w h values)
 rre_is OfRows format w h values = refl
 rre_is Joined format w h values = refl
 
-pub rre_len : (form : Runs) (format : PixelFormat) (w h : ℕ) (values : List ℕ) → length (form_of form Rre format w h values) ≡ 4 + pixel_len format + subrect_len format * length (subrects form w h values)
+pub rre_len : (form : RectForm) (format : PixelFormat) (w h : ℕ) (values : List ℕ) → length (form_of form Rre format w h values) ≡ 4 + pixel_len format + subrect_len format * length (subrects form w h values)
 rre_len form format w h values =
     let ss : List Subrect = subrects form w h values in
     let p : List ℕ = pixel_bytes format (value_at w values 0 0) in
@@ -66,10 +66,10 @@ rre_len form format w h values =
     omega (arith, ap length (rre_is form format w h values), length-append n p, length-append (n ++ p) (flat_map (rre_subrect_bytes format) ss), all_len format ss, pixel_size format (value_at w values 0 0))
 
 -- It is shorter than Raw, or it isn't.
-pub rre_saves : (form : Runs) (format : PixelFormat) (w h end : ℕ) (values : List ℕ) → end ≡ 4 + pixel_len format + subrect_len format * length (subrects form w h values) → end < length values * pixel_len format → saves_bytes_as form Rre format w h values ≡ true
+pub rre_saves : (form : RectForm) (format : PixelFormat) (w h end : ℕ) (values : List ℕ) → end ≡ 4 + pixel_len format + subrect_len format * length (subrects form w h values) → end < length values * pixel_len format → saves_bytes_as form Rre format w h values ≡ true
 rre_saves form format w h end values e lt = lt-ltb (length (form_of form Rre format w h values)) (length (raw_bytes format values)) (omega (arith, rre_len form format w h values, raw_len format values))
 
-pub rre_saves_nothing : (form : Runs) (format : PixelFormat) (w h : ℕ) (values : List ℕ) → length values * pixel_len format ≤ 4 + pixel_len format + subrect_len format * length (subrects form w h values) → saves_bytes_as form Rre format w h values ≡ false
+pub rre_saves_nothing : (form : RectForm) (format : PixelFormat) (w h : ℕ) (values : List ℕ) → length values * pixel_len format ≤ 4 + pixel_len format + subrect_len format * length (subrects form w h values) → saves_bytes_as form Rre format w h values ≡ false
 rre_saves_nothing form format w h values le = le-ltb (length (form_of form Rre format w h values)) (length (raw_bytes format values)) (omega (arith, rre_len form format w h values, raw_len format values))
 
 -- The number of subrectangles, from where they end.

@@ -7,7 +7,7 @@ use Rattle.raster.specs.Screen.{Canvas, value_at}
 use Rattle.raster.specs.Encoding.{Subrect, rre_subrect_bytes, run_from, runs, runs_of_row}
 use Rattle.raster.proofs.Runs.{run_some, run_within}
 use Rattle.raster.proofs.RowScan.{IsFresh, runs_behind, found_other, found_background}
-use Rattle.joined_runs.specs.declared.runs.Runs.{Runs}
+use Rattle.joined_runs.specs.declared.rect_form.RectForm.{RectForm}
 use Rattle.joined_runs.specs.Joined.{written}
 use Rattle.joined_runs.proofs.WrittenParts.{written_first, written_append}
 
@@ -57,7 +57,7 @@ put_one format all rest before out new used end stop s h e b =
     (put_more format all (s ∷ []) rest before out new used end h (rw (← one) (b ∙ ap (λ t. take end out ++ t) (sym (append-nil (rre_subrect_bytes format s))))))
 
 -- What is written for the run at a fresh position is put, if it is not of the background.
-pub row_puts : (format : PixelFormat) (runs : Runs) (canvas : Canvas) (background w h y x v len : ℕ) (all : List Subrect) (before out new : List ℕ) (used end stop : ℕ) → x < w → IsFresh canvas y x → v ≡ canvas x y → len ≡ (run_from canvas w y x).area.w
+pub row_puts : (format : PixelFormat) (runs : RectForm) (canvas : Canvas) (background w h y x v len : ℕ) (all : List Subrect) (before out new : List ℕ) (used end stop : ℕ) → x < w → IsFresh canvas y x → v ≡ canvas x y → len ≡ (run_from canvas w y x).area.w
     → HasPut format all (written runs canvas w h (runs_behind canvas background w y x)) before out used end → (v ≡ background → ⊥)
     → stop ≡ end + subrect_len format * length (written runs canvas w h (record { value = v; area = record { x = x; y = y; w = len; h = 1 } } ∷ []))
     → take stop new ≡ take end out ++ flat_map (rre_subrect_bytes format) (written runs canvas w h (record { value = v; area = record { x = x; y = y; w = len; h = 1 } } ∷ []))
@@ -71,7 +71,7 @@ row_puts format runs canvas background w h y x v len all before out new used end
     let bytes = rw (is, long) at b in
     rw (long, stop_is) (put_more format all (written runs canvas w h (run ∷ [])) (written runs canvas w h rest) before out new used end split (rw stop_is at bytes))
 
-pub row_skips : (format : PixelFormat) (runs : Runs) (canvas : Canvas) (background w h y x v len : ℕ) (all : List Subrect) (before out : List ℕ) (used end : ℕ) → x < w → IsFresh canvas y x → v ≡ canvas x y → len ≡ (run_from canvas w y x).area.w
+pub row_skips : (format : PixelFormat) (runs : RectForm) (canvas : Canvas) (background w h y x v len : ℕ) (all : List Subrect) (before out : List ℕ) (used end : ℕ) → x < w → IsFresh canvas y x → v ≡ canvas x y → len ≡ (run_from canvas w y x).area.w
     → HasPut format all (written runs canvas w h (runs_behind canvas background w y x)) before out used end → v ≡ background → HasPut format all (written runs canvas w h (runs_behind canvas background w y (x + len))) before out used end
 row_skips format runs canvas background w h y x v len all before out used end lx fresh is long put e =
     rw long (rw (found_background canvas background w y x lx fresh (sym is ∙ e)) at put)
@@ -84,7 +84,7 @@ run_fits canvas w y x len lx long =
     (omega (arith, a, long), omega (arith, b, long))
 
 -- There is no room for what is written for the run at a fresh position.
-pub row_too_long : (format : PixelFormat) (runs : Runs) (canvas : Canvas) (background w h y x v len : ℕ) (all : List Subrect) (before out : List ℕ) (used end : ℕ) → x < w → IsFresh canvas y x → v ≡ canvas x y → len ≡ (run_from canvas w y x).area.w
+pub row_too_long : (format : PixelFormat) (runs : RectForm) (canvas : Canvas) (background w h y x v len : ℕ) (all : List Subrect) (before out : List ℕ) (used end : ℕ) → x < w → IsFresh canvas y x → v ≡ canvas x y → len ≡ (run_from canvas w y x).area.w
     → HasPut format all (written runs canvas w h (runs_behind canvas background w y x)) before out used end → (v ≡ background → ⊥)
     → end + subrect_len format * length (written runs canvas w h (record { value = v; area = record { x = x; y = y; w = len; h = 1 } } ∷ [])) ≤ used + subrect_len format * length all
 row_too_long format runs canvas background w h y x v len all before out used end lx fresh is long put ne =
@@ -121,7 +121,7 @@ put_all format all before out used end h =
     (rw same at h.count, rw same at h.bytes)
 
 -- A row is put.
-pub row_is_put : (format : PixelFormat) (form : Runs) (canvas : Canvas) (w h y b : ℕ) (before out new : List ℕ) (used end stop : ℕ) → y < h → b ≡ canvas 0 0 → HasPut format (written form canvas w h (runs canvas w h)) (written form canvas w h (runs_below canvas w h y)) before out used end
+pub row_is_put : (format : PixelFormat) (form : RectForm) (canvas : Canvas) (w h y b : ℕ) (before out new : List ℕ) (used end stop : ℕ) → y < h → b ≡ canvas 0 0 → HasPut format (written form canvas w h (runs canvas w h)) (written form canvas w h (runs_below canvas w h y)) before out used end
     → stop ≡ end + subrect_len format * length (written form canvas w h (runs_of_row canvas b w y)) → take stop new ≡ take end out ++ flat_map (rre_subrect_bytes format) (written form canvas w h (runs_of_row canvas b w y))
     → HasPut format (written form canvas w h (runs canvas w h)) (written form canvas w h (runs_below canvas w h (y + 1))) before new used stop
 row_is_put format form canvas w h y b before out new used end stop lt is put e bytes =
@@ -132,7 +132,7 @@ row_is_put format form canvas w h y b before out new used end stop lt is put e b
     rw end_is (put_more format (written form canvas w h (runs canvas w h)) (written form canvas w h (runs_of_row canvas (canvas 0 0) w y)) (written form canvas w h (runs_below canvas w h (y + 1))) before out new used end split (rw (← end_is) says))
 
 -- There is no room for it.
-pub row_no_room : (format : PixelFormat) (form : Runs) (canvas : Canvas) (w h y b : ℕ) (before out : List ℕ) (used end : ℕ) → y < h → b ≡ canvas 0 0 → HasPut format (written form canvas w h (runs canvas w h)) (written form canvas w h (runs_below canvas w h y)) before out used end
+pub row_no_room : (format : PixelFormat) (form : RectForm) (canvas : Canvas) (w h y b : ℕ) (before out : List ℕ) (used end : ℕ) → y < h → b ≡ canvas 0 0 → HasPut format (written form canvas w h (runs canvas w h)) (written form canvas w h (runs_below canvas w h y)) before out used end
     → end + subrect_len format * length (written form canvas w h (runs_of_row canvas b w y)) ≤ used + subrect_len format * length (written form canvas w h (runs canvas w h))
 row_no_room format form canvas w h y b before out used end lt is put =
     let here = rw (below_next canvas w h y lt) at put in

@@ -13,7 +13,7 @@ ghost use Rattle.rre_codec.specs.Putting.{Puts};
 
 use crate::corners::has_joined;
 use crate::run::{COUNT_LEN, put_run, run_len};
-use joined_runs::{RowRun, Runs, height};
+use joined_runs::{RectForm, RowRun, height};
 use pixel_format::Format;
 use raster::{RECT_LEN, Rect, has_runs};
 
@@ -33,7 +33,7 @@ fn whole(w: usize, h: usize) -> Rect
 /// ends, and `None` where that isn't inside `out`.
 fn put_subrect(
     format: &Format,
-    form: Runs,
+    form: RectForm,
     values: &[u32],
     w: usize,
     h: usize,
@@ -66,7 +66,7 @@ fn put_subrect(
 /// answers where they end, and `None` where that isn't inside `out`.
 fn put_row(
     format: &Format,
-    form: Runs,
+    form: RectForm,
     values: &[u32],
     w: usize,
     h: usize,
@@ -103,7 +103,7 @@ fn put_row(
 /// where that isn't inside `out`.
 fn put_runs(
     format: &Format,
-    form: Runs,
+    form: RectForm,
     values: &[u32],
     w: usize,
     h: usize,
@@ -130,7 +130,7 @@ fn put_runs(
 
 /// Whether a quick count shows that a rectangle has at least this many runs in a form. It takes less time than writing
 /// them.
-fn has_many(form: Runs, values: &[u32], w: usize, h: usize, enough: u64) -> bool
+fn has_many(form: RectForm, values: &[u32], w: usize, h: usize, enough: u64) -> bool
     requires w_some { 0 < w }
     requires h_some { 0 < h }
     requires wide { w < 2 ^ 16 }
@@ -140,8 +140,8 @@ fn has_many(form: Runs, values: &[u32], w: usize, h: usize, enough: u64) -> bool
         IsTrue result → enough ≤ length (written form canvas w h (runs canvas w h)) }
 {
     match form {
-        Runs::OfRows => has_runs(values, w, &whole(w, h), enough),
-        Runs::Joined => has_joined(values, w, h, enough),
+        RectForm::OfRows => has_runs(values, w, &whole(w, h), enough),
+        RectForm::Joined => has_joined(values, w, h, enough),
     }
 }
 
@@ -151,7 +151,7 @@ fn has_many(form: Runs, values: &[u32], w: usize, h: usize, enough: u64) -> bool
 /// It answers `None`, as soon as that shows, where Raw has no more bytes. Nothing is said then of what `out` holds. The
 /// values are `w` by `h`, row after row, and `out` has room for the bytes of Raw.
 pub fn encode_as(
-    form: Runs,
+    form: RectForm,
     values: &[u32],
     w: u64,
     h: u64,
@@ -197,5 +197,5 @@ pub fn encode(values: &[u32], w: u64, h: u64, format: &Format, out: &mut [u8]) -
     requires room { length values.now * pixel_len format.now ≤ length out.old }
     ensures { IsEncoded Rre format.now w h values.now out.new result }
 {
-    encode_as(Runs::OfRows, values, w, h, format, out)
+    encode_as(RectForm::OfRows, values, w, h, format, out)
 }

@@ -7,7 +7,7 @@ use Rattle.std.specs.declared.net.socket_addr.SocketAddr.{SocketAddr}
 use Rattle.std.proofs.NetLemmas.Theorems.{IsSocketText_unique}
 use Rattle.roles.specs.declared.role.Role.{Role}
 use Rattle.roles.specs.declared.role.Role.TheVariants.{Full, View}
-use Rattle.run_control.specs.declared.request.Form.TheVariants.{Text, Json}
+use Rattle.run_control.specs.declared.request.StateForm.TheVariants.{Text, Json}
 use Rattle.run_control.specs.declared.request.Request.{Request}
 use Rattle.run_control.specs.declared.request.Request.TheVariants.{State, Drain, Undrain, End, Next, Call, Stop}
 use Rattle.run_control.specs.Request.{IsInRange, Says}

@@ -6,7 +6,7 @@ use Rattle.std.specs.Net.Grammar.{IsSocketText}
 use Rattle.std.specs.Net.Socket.{socket_port}
 use Rattle.roles.specs.declared.role.Role.{Role}
 use Rattle.roles.specs.declared.role.Role.TheVariants.{Full, View}
-use Rattle.run_control.specs.declared.request.Form.TheVariants.{Text, Json}
+use Rattle.run_control.specs.declared.request.StateForm.TheVariants.{Text, Json}
 use Rattle.run_control.specs.declared.request.Request.{Request}
 use Rattle.run_control.specs.declared.request.Request.TheVariants.{State, Drain, Undrain, End, Next, Call, Stop}
 

@@ -14,4 +14,4 @@ pub use law::{
     call_changes_no_door, drained_doors_let_nobody_in, end_asks_one_place, next_changes_no_door,
     nobody_comes_in_after_a_stop, whoever_is_there_stays,
 };
-pub use request::{Form, Request};
+pub use request::{Request, StateForm};

@@ -15,7 +15,7 @@ use std::net::SocketAddr;
 
 /// The form in which an answer is written.
 #[derive(Clone, Copy, Debug, PartialEq, Eq)]
-pub enum Form {
+pub enum StateForm {
     /// As lines that people read.
     Text,
     /// As one object of JSON.
@@ -26,7 +26,7 @@ pub enum Form {
 #[derive(Clone, Copy, Debug, PartialEq, Eq)]
 pub enum Request {
     /// How the run stands: `state`, or `state json`.
-    State(Form),
+    State(StateForm),
     /// That nobody is let in any more: `drain`. Viewers that have a place stay.
     Drain,
     /// That viewers are let in again: `undrain`.
@@ -50,8 +50,8 @@ impl Request {
             ((request : declared.Request) → IsInRange request → ¬ Says request line.now) }
     {
         match line {
-            "state" => Some(Request::State(Form::Text)),
-            "state json" => Some(Request::State(Form::Json)),
+            "state" => Some(Request::State(StateForm::Text)),
+            "state json" => Some(Request::State(StateForm::Json)),
             "drain" => Some(Request::Drain),
             "undrain" => Some(Request::Undrain),
             "next" => Some(Request::Next),

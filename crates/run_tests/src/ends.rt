@@ -13,7 +13,7 @@ use arrayvec::ArrayVec;
 use fault::Fault;
 use host_turns::{Hosts, RunScreen};
 use input_relay::{Settled, settle};
-use joined_runs::Runs;
+use joined_runs::RectForm;
 use link::Link;
 use raster::Rect;
 use reflect_core::{Cut, ScreenSource};
@@ -223,7 +223,7 @@ where
         hosts,
         doors,
         AnswerForm {
-            runs: Runs::Joined,
+            runs: RectForm::Joined,
             zrle: false,
         },
         everyone,

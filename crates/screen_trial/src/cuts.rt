@@ -8,7 +8,7 @@ use crate::lines::Tried;
 use crate::rects::rect_of;
 use crate::values::Values;
 use fault::Fault;
-use joined_runs::Runs;
+use joined_runs::RectForm;
 use painter::{Board, Painter};
 use raster::{Encoding, Rect};
 use reflect_core::Cut;
@@ -77,9 +77,9 @@ fn answer(alloc: Global, cut: &Cut, given: &Values, seen: &mut Values) -> Option
     let (area, _) = rect_of(rest)?;
     let style = Style {
         runs: if *joined == 1 {
-            Runs::Joined
+            RectForm::Joined
         } else {
-            Runs::OfRows
+            RectForm::OfRows
         },
         format: format_of(given.bytes.as_slice())?,
         choice: Choice {

@@ -9,10 +9,10 @@ use Rattle.roles.specs.declared.role.Role.TheVariants.{Full, View}
 use Rattle.settings.specs.ByRole.{HasPlaces, places_for}
 use Rattle.settings.specs.declared.values.Settings.{Settings}
 use Rattle.serve.specs.Doors.{IsEntryFor}
-use Rattle.serve.specs.declared.open.Entry.{Entry}
+use Rattle.serve.specs.declared.open.RoleEntry.{RoleEntry}
 
 -- An entry has the places of its role.
-pub entry_places : (role : Role) (settings : Settings) (entry : Entry) → IsEntryFor role settings entry → places_for (arc_value entry.lobby).role entry.settings.now ≡ places_for role settings
+pub entry_places : (role : Role) (settings : Settings) (entry : RoleEntry) → IsEntryFor role settings entry → places_for (arc_value entry.lobby).role entry.settings.now ≡ places_for role settings
 entry_places role settings entry is = ap₂ places_for is.1 is.0
 
 -- Of viewers with full control there are 32 at most.

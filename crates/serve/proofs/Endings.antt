@@ -19,7 +19,7 @@ use Rattle.serve.specs.declared.ended.Ended.{Ended}
 use Rattle.serve.specs.declared.ended.PlayedEnd.{PlayedEnd}
 use Rattle.serve.specs.declared.ended.Reflected.{Reflected}
 use Rattle.serve.specs.declared.ended.Served.{Served}
-use Rattle.serve.specs.declared.order.Cut.{Cut}
+use Rattle.serve.specs.declared.order.StopOrder.{StopOrder}
 use Rattle.serve.specs.declared.trouble.Trouble.{Trouble}
 
 -- ---- the status
@@ -86,7 +86,7 @@ by_itself settings last counted ran played is counts called = record {
 }
 
 -- What is handed out at an end, or after trouble before any run.
-told : (settings : Settings) (last : Ending) (status : ℕ) (ran : Option Ran) (stopped : Option Cut) → status ≡ status_for last.answer → IsEnd settings last ran stopped → IsToldBy settings status ran stopped
+told : (settings : Settings) (last : Ending) (status : ℕ) (ran : Option Ran) (stopped : Option StopOrder) → status ≡ status_for last.answer → IsEnd settings last ran stopped → IsToldBy settings status ran stopped
 told settings last status ran (Some cut) is end = (is ∙ ap status_for end.0, end.1)
 told settings last status (Some ran) None is end = (last.answer, end.0, is)
 told settings last status None None is end = absurd end
@@ -102,10 +102,10 @@ was_run settings (Err trouble) served by is = subst (λ (r : Option Ran). IfSome
 pub status_tells : (settings : Settings) (ended : Result Ended Trouble) (served : Served) → IfOk ended (λ e. IsEndBy settings e) → IsServed ended served → IsToldBy settings served.status served.ran served.stopped
 status_tells settings (Ok e) served by is =
     told settings e.last served.status served.ran served.stopped is.0
-    (subst (λ (r : Option Ran). IsEnd settings e.last r served.stopped) (sym is.1) (subst (λ (s : Option Cut). IsEnd settings e.last e.ran s) (sym is.2) by.end))
+    (subst (λ (r : Option Ran). IsEnd settings e.last r served.stopped) (sym is.1) (subst (λ (s : Option StopOrder). IsEnd settings e.last e.ran s) (sym is.2) by.end))
 status_tells settings (Err trouble) served by is =
     let no_run : IsToldBy settings served.status None None = ⊎_elim (λ (t : status_for (Err trouble.fault) ≡ 3). inl (is.0 ∙ t)) (λ (t : status_for (Err trouble.fault) ≡ 4). inr (is.0 ∙ t)) (failed trouble.fault) in
-    subst (λ (r : Option Ran). IsToldBy settings served.status r served.stopped) (sym is.1) (subst (λ (s : Option Cut). IsToldBy settings served.status None s) (sym is.2) no_run)
+    subst (λ (r : Option Ran). IsToldBy settings served.status r served.stopped) (sym is.1) (subst (λ (s : Option StopOrder). IsToldBy settings served.status None s) (sym is.2) no_run)
 
 status_in : (why : Result (Unit {0}) Fault) (status : ℕ) → status ≡ status_for why → IsStatus status
 status_in (Ok done) status is = inl is

@@ -15,19 +15,19 @@ use Rattle.run_traits.specs.Either.{lets_in_either, sees_off_either}
 use Rattle.connections.specs.declared.lobby.TcpDoor.{TcpDoor}
 use Rattle.run_traits.specs.declared.either_door.EitherDoor.{EitherDoor}
 use Rattle.run_traits.specs.declared.either_door.EitherDoor.TheVariants.{First, Second}
-use Rattle.serve.specs.declared.open.Entry.{Entry}
+use Rattle.serve.specs.declared.open.RoleEntry.{RoleEntry}
 use Rattle.serve.specs.declared.place_door.PlaceDoor.{PlaceDoor}
 
 -- The entry is of these settings, and for viewers of this role.
-abbrev pub IsEntryFor : Role → Settings → Entry → Type 0
+abbrev pub IsEntryFor : Role → Settings → RoleEntry → Type 0
 IsEntryFor role settings entry = (entry.settings.now ≡ settings) × ((arc_value entry.lobby).role ≡ role)
 
 -- There is an entry for viewers with full control, unless there are only those who look on.
-abbrev pub IsFullEntry : Settings → Option Entry → Type 0
+abbrev pub IsFullEntry : Settings → Option RoleEntry → Type 0
 IsFullEntry settings full = MatchOption full (settings.view_only ≡ true) (λ entry. (settings.view_only ≡ false) × IsEntryFor Full settings entry)
 
 -- The first entry, if there is one, is for viewers with full control, and the second for those that only look on.
-pub record AreBoth (settings : Settings) (full : Option Entry) (view : Entry) : Type 0 where
+pub record AreBoth (settings : Settings) (full : Option RoleEntry) (view : RoleEntry) : Type 0 where
   pub lets_type : IsFullEntry settings full
   pub lets_look : IsEntryFor View settings view
 

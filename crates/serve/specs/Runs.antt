@@ -4,7 +4,7 @@ use Rattle.fault.specs.declared.kinds.Fault.{Fault}
 use Rattle.fault.specs.declared.kinds.Fault.TheVariants.{LinkEnded}
 use Rattle.roles.specs.declared.role.Role.{Role}
 use Rattle.roles.specs.declared.role.Role.TheVariants.{Full, View}
-use Rattle.settings.specs.ByRole.{places_for, runs_for}
+use Rattle.settings.specs.ByRole.{places_for, rect_form_for}
 use Rattle.settings.specs.Rooms.{IsRoomFor}
 use Rattle.settings.specs.declared.values.Settings.{Settings}
 use Rattle.host_turns.specs.declared.ending.Ending.{Ending}
@@ -18,7 +18,7 @@ use Rattle.serve.specs.Turns.{MayEnd}
 use Rattle.serve.specs.declared.ended.Ended.{Ended}
 use Rattle.serve.specs.declared.ended.Reflected.{Reflected}
 use Rattle.serve.specs.declared.ended.Served.{Served}
-use Rattle.serve.specs.declared.order.Cut.{Cut}
+use Rattle.serve.specs.declared.order.StopOrder.{StopOrder}
 use Rattle.serve.specs.declared.trouble.Trouble.{Trouble}
 
 -- The roles of the viewers' places: as many of each as the settings say, and those with full control come first.
@@ -31,7 +31,7 @@ roles_for settings = viewer_roles settings ++ (if is_some settings.recording the
 
 -- How all viewers are answered: RRE and Hextile in the form of the settings, and ZRLE unless the settings say otherwise.
 abbrev pub form_for : Settings → AnswerForm
-form_for settings = record { runs = runs_for settings; zrle = not settings.no_zrle }
+form_for settings = record { runs = rect_form_for settings; zrle = not settings.no_zrle }
 
 -- A run by these settings: its room has their size, or that of its first host's screen; its hosts are joined with a
 -- password exactly where the settings have a file for one; its places have their roles; and its viewers are answered in
@@ -51,7 +51,7 @@ CountsAs settings answer counted =
 
 -- What the exit status says. If an operator has stopped the run, it is 0, and the settings have a socket for one. If
 -- none has, it is the one for the answer with which the run ended, as that counts, and 3 or 4 where none was run.
-abbrev pub IsToldBy : Settings → ℕ → Option Ran → Option Cut → Type 0
+abbrev pub IsToldBy : Settings → ℕ → Option Ran → Option StopOrder → Type 0
 IsToldBy settings status ran (Some cut) = (status ≡ 0) × (is_some settings.control ≡ true)
 IsToldBy settings status (Some ran) None =
     (counted : Result (Unit {0}) Fault) × CountsAs settings ran.course.last_end.answer counted
@@ -68,7 +68,7 @@ pub record IsRunBy (settings : Settings) (run : Reflected) : Type 0 where
 
 -- How a run ended: as an operator has stopped it, which only one with a socket can, or as the last host of a run that
 -- was run has ended, as that counts.
-abbrev pub IsEnd : Settings → Ending → Option Ran → Option Cut → Type 0
+abbrev pub IsEnd : Settings → Ending → Option Ran → Option StopOrder → Type 0
 IsEnd settings last ran (Some cut) = (last.answer ≡ Ok tt) × (is_some settings.control ≡ true)
 IsEnd settings last (Some ran) None = CountsAs settings ran.course.last_end.answer last.answer
     × (last.has_called ≡ ran.course.last_end.has_called)

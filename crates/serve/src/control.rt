@@ -3,7 +3,7 @@
 use crate::call::call;
 use crate::halls::Halls;
 use crate::lifeline::{Lifeline, Stays};
-use crate::order::{Cut, Skip};
+use crate::order::{SkipOrder, StopOrder};
 use crate::state::state;
 use crate::writer_reach::WriterReach;
 use connections::Desk;
@@ -62,7 +62,7 @@ pub(crate) struct Control {
     pub(crate) recording: Option<Arc<Recording, Global>>,
     /// What plays the hosts that are recordings.
     pub(crate) player: Arc<Player, Global>,
-    pub(crate) lifeline: Arc<Lifeline<Cut, Skip>, Global>,
+    pub(crate) lifeline: Arc<Lifeline<StopOrder, SkipOrder>, Global>,
 }
 
 /// What a request reaches.
@@ -155,23 +155,23 @@ fn await_last_words<R: Wait + Clock>(rt: &R, reach: &Reach) {
 
 /// Ends the run: all viewers leave, and the host is told what they held up to then. After that no host is read. Whoever
 /// asked for it is kept until the run has ended.
-fn stop<R: Net + Wait + Clock>(rt: &R, reach: &Reach, stream: &UnixStream, cut: Cut) {
+fn stop<R: Net + Wait + Clock>(rt: &R, reach: &Reach, stream: &UnixStream, order: StopOrder) {
     reach.halls.close(rt);
     await_last_words(rt, reach);
     let _ = (&mut &*stream).write_all(b"done\n");
     let lifeline = &reach.control.lifeline;
-    lifeline.cut(rt, cut);
+    lifeline.cut(rt, order);
     lifeline.await_end(rt, Duration::from_millis(END_MILLIS));
 }
 
 /// Leaves the host for the next one, once it was told what viewers have sent up to then, and says what became of that.
 /// Where the host has ended by itself meanwhile, the next one has its turn all the same.
-fn go_on<R: Wait + Clock>(rt: &R, reach: &Reach, skip: Skip) -> &'static str {
+fn go_on<R: Wait + Clock>(rt: &R, reach: &Reach, order: SkipOrder) -> &'static str {
     let lifeline = &reach.control.lifeline;
     match lifeline.number(rt) {
         Ok(number) => {
             await_last_words(rt, reach);
-            lifeline.skip(rt, number, skip);
+            lifeline.skip(rt, number, order);
             "done\n"
         }
         Err(Stays::NoHost) => "error: there is no host now\n",
@@ -188,8 +188,8 @@ fn answer<R: Net<Stream = TcpStream> + Wait + Clock>(
 ) -> io::Result<()> {
     let mut out = stream;
     let outcome = reach.control.desk.ask(rt, request);
-    if let Some(cut) = Cut::of(request) {
-        stop(rt, reach, stream, cut);
+    if let Some(order) = StopOrder::of(request) {
+        stop(rt, reach, stream, order);
         return Ok(());
     }
     if let Request::State(form) = request {
@@ -200,8 +200,8 @@ fn answer<R: Net<Stream = TcpStream> + Wait + Clock>(
         let text = call(rt, reach.alloc, &reach.halls, role, address)?;
         return out.write_all(text.as_bytes());
     }
-    let text = match (outcome, Skip::of(request)) {
-        (Outcome::Done, Some(skip)) => go_on(rt, reach, skip),
+    let text = match (outcome, SkipOrder::of(request)) {
+        (Outcome::Done, Some(order)) => go_on(rt, reach, order),
         _ => outcome_text(outcome),
     };
     out.write_all(text.as_bytes())

@@ -3,7 +3,7 @@
 ghost use Rattle.std.specs.Prelude.{◌≡◌, Err, None};
 ghost use Rattle.serve.specs.Statuses.{status_for};
 
-use crate::order::Cut;
+use crate::order::StopOrder;
 use crate::status::status_of;
 use fault::Fault;
 use host_turns::Ending;
@@ -37,7 +37,7 @@ pub(crate) struct Ended {
     /// recording that is cut off inside a message.
     pub(crate) last: Ending,
     pub(crate) ran: Option<Ran>,
-    pub(crate) stopped: Option<Cut>,
+    pub(crate) stopped: Option<StopOrder>,
     /// How the last host has ended, if it is a recording that wasn't played to its end.
     pub(crate) played: Option<PlayedEnd>,
 }
@@ -50,7 +50,7 @@ pub struct Served {
     /// What shows that a run was run, and what it was, if one was.
     pub ran: Option<Ran>,
     /// What shows that an operator has asked the run to stop, if one has.
-    pub stopped: Option<Cut>,
+    pub stopped: Option<StopOrder>,
 }
 
 impl Served {

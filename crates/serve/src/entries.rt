@@ -7,7 +7,7 @@ ghost use Rattle.serve.specs.Doors.{AreBoth, IsFullEntry};
 ghost use Rattle.serve.specs.Ports.{AsksForPeople, AsksFor, AsksForViewers};
 
 use crate::bound::Ports;
-use crate::open::{Entry, open};
+use crate::open::{RoleEntry, open};
 use crate::trouble::{Stage, Trouble};
 use crate::web::{files_of, open_webs};
 use connections::{Desk, WebEntry};
@@ -40,7 +40,7 @@ fn open_full<'a, R: Net<Stream = TcpStream, Listener = TcpListener> + Files, G: 
     ports: &mut Ports,
     desk: &Arc<Desk, Global>,
     log: &G,
-) -> Result<Option<Entry<'a>>, Trouble>
+) -> Result<Option<RoleEntry<'a>>, Trouble>
     ensures asked { AsksFor Full settings.now ports.old ports.new }
     ensures closed { settings.now.view_only ≡ true → ports.new ≡ ports.old }
     ensures entry { IfOk result (λ full. IsFullEntry settings.now full) }
@@ -61,7 +61,7 @@ pub(crate) fn open_both<'a, R: Net<Stream = TcpStream, Listener = TcpListener> +
     settings: &'a Settings,
     ports: &mut Ports,
     log: &G,
-) -> Result<(Option<Entry<'a>>, Entry<'a>), Trouble>
+) -> Result<(Option<RoleEntry<'a>>, RoleEntry<'a>), Trouble>
     ensures asked { AsksForViewers settings.now ports.old ports.new }
     ensures both { IfOk result (λ entries. AreBoth settings.now entries.0 entries.1) }
 {
@@ -74,8 +74,8 @@ pub(crate) fn open_both<'a, R: Net<Stream = TcpStream, Listener = TcpListener> +
 /// Where all come in: viewers with full control, if there are to be some, those who only look on, and browsers.
 #[derive(Drop)]
 pub(crate) struct Entrances<'a> {
-    pub(crate) full: Option<Entry<'a>>,
-    pub(crate) view: Entry<'a>,
+    pub(crate) full: Option<RoleEntry<'a>>,
+    pub(crate) view: RoleEntry<'a>,
     pub(crate) web: Vec<WebEntry>,
 }
 

@@ -3,7 +3,7 @@
 ghost use Rattle.std.specs.Prelude.{◌≡◌};
 ghost use Rattle.serve.specs.Runs.{form_for};
 
-use settings::{Settings, runs_of};
+use settings::{Settings, rect_form_of};
 use viewer_session::AnswerForm;
 
 /// How all viewers are answered by these settings.
@@ -11,7 +11,7 @@ pub(crate) fn form_of(settings: &Settings) -> AnswerForm
     ensures { result ≡ form_for settings.now }
 {
     AnswerForm {
-        runs: runs_of(settings),
+        runs: rect_form_of(settings),
         zrle: !settings.no_zrle,
     }
 }

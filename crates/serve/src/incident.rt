@@ -3,7 +3,7 @@
 ghost use Rattle.std.specs.Prelude.{◌≡◌};
 ghost use Rattle.serve.specs.Gravities.{end_gravity, gravity_for};
 
-use crate::order::{Cut, Skip};
+use crate::order::{SkipOrder, StopOrder};
 use playback::BadPlayback;
 use recorder::{EndReason, RecordingEnd, RecordingNews};
 use run_reports::Gravity;
@@ -19,10 +19,10 @@ pub(crate) enum Incident<'a> {
     MetricsListening(SocketAddr),
     /// A host that calls can connect here.
     HostsListening(SocketAddr),
-    /// The host was left because the run was asked to stop, as the `Cut` shows.
-    HostStopped(Option<SocketAddr>, Cut),
-    /// The host was left because the run was asked for its next one, as the `Skip` shows.
-    HostSkipped(Option<SocketAddr>, Skip),
+    /// The host was left because the run was asked to stop, as the `StopOrder` shows.
+    HostStopped(Option<SocketAddr>, StopOrder),
+    /// The host was left because the run was asked for its next one, as the `SkipOrder` shows.
+    HostSkipped(Option<SocketAddr>, SkipOrder),
     /// The recording that was played was left because another time of it was asked for.
     RecordingSought,
     /// The recording that was played was left because it can't be played on, for this reason.

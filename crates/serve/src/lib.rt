@@ -52,6 +52,6 @@ mod writer_reach;
 pub use answer::serve;
 pub use bound::Ports;
 pub use ended::Served;
-pub use order::Cut;
+pub use order::StopOrder;
 pub use rested::Rested;
 pub use runtime::Runtime;

@@ -24,7 +24,7 @@ use std::sync::Arc;
 /// Where the viewers of a role come in, and the lobby to which they are let. It listens at the port that the settings
 /// have for the role of that lobby, and is locked where they say so.
 #[derive(Drop)]
-pub(crate) struct Entry<'a> {
+pub(crate) struct RoleEntry<'a> {
     pub(crate) settings: &'a Settings,
     pub(crate) bound: Bound,
     pub(crate) lobby: Arc<Lobby, Global>,
@@ -70,7 +70,7 @@ pub(crate) fn open<'a, R: Net<Stream = TcpStream, Listener = TcpListener> + File
     role: Role,
     desk: &Arc<Desk, Global>,
     log: &G,
-) -> Result<Entry<'a>, Trouble>
+) -> Result<RoleEntry<'a>, Trouble>
     ensures asked { AsksFor role settings.now ports.old ports.new }
     ensures settings { IfOk result (λ entry. entry.settings.now ≡ settings.now) }
     ensures address { IfOk result (λ entry. IsAddressFor role settings.now entry.bound.address) }
@@ -102,7 +102,7 @@ pub(crate) fn open<'a, R: Net<Stream = TcpStream, Listener = TcpListener> + File
         return Err(Trouble::new(Stage::Start, Fault::Memory));
     };
     announce(log, role, &key, address, places, Way::Tcp);
-    Ok(Entry {
+    Ok(RoleEntry {
         settings,
         bound,
         lobby,

@@ -8,7 +8,7 @@ ghost use Rattle.roles.specs.declared.role.Role.TheVariants.{Full, View};
 ghost use Rattle.serve.specs.Doors.{AreDoorsFor, AreBoth, AreNumbered, HaveTheirRoles, IsFullEntry, roles_in};
 
 use crate::incident::RunLog;
-use crate::open::Entry;
+use crate::open::RoleEntry;
 use crate::place_door::PlaceDoor;
 use crate::runtime::{Runtime, STACK};
 use crate::tape::Recorder;
@@ -60,7 +60,7 @@ where
         &mut self,
         rt: R,
         alloc: Global,
-        entry: &Entry<'_>,
+        entry: &RoleEntry<'_>,
         seat: Seat,
         log: &G,
     ) -> Result<(), Fault>
@@ -89,7 +89,7 @@ where
         rt: R,
         alloc: Global,
         settings: &Settings,
-        full: &Option<Entry<'_>>,
+        full: &Option<RoleEntry<'_>>,
         log: &G,
     ) -> Result<(), Trouble>
         requires none { self.old.doors.items ≡ [] }
@@ -113,7 +113,7 @@ where
         &mut self,
         rt: R,
         alloc: Global,
-        entry: &Entry<'_>,
+        entry: &RoleEntry<'_>,
         log: &G,
     ) -> Result<(), Trouble>
         requires { length self.old.doors.items
@@ -146,8 +146,8 @@ pub(crate) fn rooms_of<R, G>(
     rt: R,
     alloc: Global,
     settings: &Settings,
-    full: &Option<Entry<'_>>,
-    view: &Entry<'_>,
+    full: &Option<RoleEntry<'_>>,
+    view: &RoleEntry<'_>,
     log: &G,
 ) -> Result<Rooms<R, G>, Trouble>
 where
@@ -218,8 +218,8 @@ pub(crate) struct Hall {
 }
 
 /// The porter of the port of a role, whose viewers are let to the entry's lobby.
-fn porter_of(rt: &impl Net, alloc: Global, entry: Entry<'_>) -> io::Result<TcpPorter> {
-    let Entry {
+fn porter_of(rt: &impl Net, alloc: Global, entry: RoleEntry<'_>) -> io::Result<TcpPorter> {
+    let RoleEntry {
         settings: _,
         bound,
         lobby,
@@ -231,7 +231,7 @@ fn porter_of(rt: &impl Net, alloc: Global, entry: Entry<'_>) -> io::Result<TcpPo
 pub(crate) fn start_porter<R: Runtime, G>(
     rt: R,
     alloc: Global,
-    entry: Entry<'_>,
+    entry: RoleEntry<'_>,
     log: &G,
 ) -> Result<Hall, Trouble>
 where

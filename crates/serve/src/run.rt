@@ -22,7 +22,7 @@ use crate::host_end::HostEnd;
 use crate::host_text::texts_of;
 use crate::incident::RunLog;
 use crate::meet::{Met, Terms};
-use crate::order::Cut;
+use crate::order::StopOrder;
 use crate::rooms::{Rooms, all_doors, everyone_of, rooms_of};
 use crate::runtime::Runtime;
 use crate::start::{control_of, lifeline_of, was_cut};
@@ -316,7 +316,7 @@ fn counted(settings: &Settings, last: Ending, played: Option<PlayedEnd>) -> Endi
 fn end_of(
     settings: &Settings,
     reflected: Result<Reflected, Trouble>,
-    stopped: Option<Cut>,
+    stopped: Option<StopOrder>,
 ) -> Result<Ended, Trouble>
     requires run { IfOk reflected (λ run. IsRunBy settings.now run) }
     requires socket { is_some stopped ≡ true → is_some settings.now.control ≡ true }

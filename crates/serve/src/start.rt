@@ -6,7 +6,7 @@ ghost use Rattle.serve.specs.States.{HasPlacesFor};
 use crate::control::{Control, Reach, keep_control, listen};
 use crate::halls::Halls;
 use crate::lifeline::Lifeline;
-use crate::order::{Cut, Skip};
+use crate::order::{SkipOrder, StopOrder};
 use crate::runtime::{Runtime, STACK};
 use crate::trouble::{Stage, Trouble};
 use crate::writer_reach::WriterReach;
@@ -78,7 +78,7 @@ pub(crate) fn control_of<R: Files + Net>(
 /// Another end of the lifeline by which an operator may end the run, if one can.
 pub(crate) fn lifeline_of(
     control: &Option<Control>,
-) -> Result<Option<Arc<Lifeline<Cut, Skip>, Global>>, Trouble>
+) -> Result<Option<Arc<Lifeline<StopOrder, SkipOrder>, Global>>, Trouble>
     ensures { IfOk result (λ lifeline. is_some lifeline ≡ is_some control.now) }
 {
     let Some(control) = control else {
@@ -93,8 +93,8 @@ pub(crate) fn lifeline_of(
 /// Notes that the run has ended: an operator that has stopped it waits for that. The result shows it where one has.
 pub(crate) fn was_cut<R: Wait>(
     rt: &R,
-    lifeline: &Option<Arc<Lifeline<Cut, Skip>, Global>>,
-) -> Option<Cut>
+    lifeline: &Option<Arc<Lifeline<StopOrder, SkipOrder>, Global>>,
+) -> Option<StopOrder>
     ensures { is_some result ≡ true → is_some lifeline.now ≡ true }
 {
     match lifeline {

@@ -8,7 +8,7 @@ use connections::{HostCard, RunCard, ViewerCard};
 use play_control::ClockTime;
 use player::Played;
 use recorder::Standing;
-use run_control::Form;
+use run_control::StateForm;
 use run_reports::{
     HostReport, PlayedReport, RecordingReport, RecordingState, Report, ViewerReport, state_json,
     state_text,
@@ -122,7 +122,7 @@ fn viewers_of<'a>(
 pub(crate) fn state<R: Wait + Clock>(
     rt: &R,
     reach: &Reach,
-    form: Form,
+    form: StateForm,
 ) -> Result<String, AllocError> {
     let alloc = reach.alloc;
     let run_card = reach.control.desk.look(rt, alloc)?;
@@ -162,7 +162,7 @@ pub(crate) fn state<R: Wait + Clock>(
         viewers: viewers.as_slice(),
     };
     match form {
-        Form::Text => state_text(alloc, &report),
-        Form::Json => state_json(alloc, &report),
+        StateForm::Text => state_text(alloc, &report),
+        StateForm::Json => state_json(alloc, &report),
     }
 }

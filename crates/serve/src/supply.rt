@@ -14,7 +14,7 @@ use crate::incident::{Incident, RunLog};
 use crate::lifeline::{Lifeline, Recall};
 use crate::meet::{Met, Missed, Reached, Terms, called, connect_by_text, join, opened};
 use crate::noted_tries::NotedTries;
-use crate::order::{Cut, Skip};
+use crate::order::{SkipOrder, StopOrder};
 use crate::quoted::Quoted;
 use crate::rested::Rested;
 use crate::trouble::{Stage, Trouble};
@@ -70,9 +70,9 @@ pub(crate) struct Supply<
     /// How the host has ended that was left last, if it is a recording that wasn't played to its end.
     pub(crate) last_end: Option<PlayedEnd>,
     /// What an operator ends the run by, or the turn of a host, if one can.
-    lifeline: Option<Arc<Lifeline<Cut, Skip>, Global>>,
+    lifeline: Option<Arc<Lifeline<StopOrder, SkipOrder>, Global>>,
     /// What showed that the run was asked to stop, if it was seen.
-    stopped: Option<Cut>,
+    stopped: Option<StopOrder>,
 }
 
 impl<
@@ -97,7 +97,7 @@ impl<
         callers: Vec<Option<HostListener>>,
         player: Arc<Player, Global>,
         again: Option<u64>,
-        lifeline: Option<Arc<Lifeline<Cut, Skip>, Global>>,
+        lifeline: Option<Arc<Lifeline<StopOrder, SkipOrder>, Global>>,
     ) -> Supply<R, G>
         ensures texts { result.texts ≡ texts }
         ensures hosts { (result.turns.further ≡ length texts.items - 1) × (result.turns.done ≡ 0) }
@@ -207,7 +207,7 @@ impl<
     }
 
     /// What shows that an operator has asked the run to stop, if one has.
-    fn is_cut(&self) -> Option<Cut>
+    fn is_cut(&self) -> Option<StopOrder>
         ensures { is_some result ≡ true → is_some self.now.lifeline ≡ true }
     {
         match &self.lifeline {
@@ -395,7 +395,7 @@ impl<
     /// Tells the log why a host was left. Where the run was asked to stop, that is the reason, however the host's link
     /// ended. Where it was asked for its next host, that is, too, unless the host was at fault by then. A recording
     /// that is cut off has ended, and of one that can't be played on the reason is told.
-    fn tell_out(&self, why: Result<(), Fault>, cut: Option<Cut>, skipped: Option<Skip>) {
+    fn tell_out(&self, why: Result<(), Fault>, cut: Option<StopOrder>, skipped: Option<SkipOrder>) {
         let has_ended = matches!(why, Ok(()) | Err(Fault::LinkEnded));
         let why = match self.last_end {
             Some(PlayedEnd::CutOff) => Ok(()),

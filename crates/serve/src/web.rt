@@ -10,7 +10,7 @@ ghost use Rattle.serve.specs.Origins.{IsAnOrigin};
 ghost use Rattle.serve.specs.Ports.{AsksForBrowsers, AsksForWeb};
 
 use crate::bound::{Bound, Ports};
-use crate::open::{Entry, announce};
+use crate::open::{RoleEntry, announce};
 use crate::origins::{admission_of, first_bad};
 use crate::runtime::{REQUEST_STACK, Runtime};
 use crate::trouble::{Stage, Trouble};
@@ -102,7 +102,7 @@ fn open_web<R: Net<Stream = TcpStream, Listener = TcpListener>, G: Log>(
     settings: &Settings,
     ports: &mut Ports,
     role: Role,
-    entry: &Entry<'_>,
+    entry: &RoleEntry<'_>,
     files: &Arc<FileTable, Global>,
     log: &G,
 ) -> Result<Option<WebEntry>, Trouble>
@@ -161,7 +161,7 @@ fn open_full_web<R: Net<Stream = TcpStream, Listener = TcpListener>, G: Log>(
     alloc: Global,
     settings: &Settings,
     ports: &mut Ports,
-    full: &Option<Entry<'_>>,
+    full: &Option<RoleEntry<'_>>,
     files: &Arc<FileTable, Global>,
     log: &G,
 ) -> Result<Option<WebEntry>, Trouble>
@@ -183,7 +183,7 @@ pub(crate) fn open_webs<R: Net<Stream = TcpStream, Listener = TcpListener>, G: L
     alloc: Global,
     settings: &Settings,
     ports: &mut Ports,
-    entries: (&Option<Entry<'_>>, &Entry<'_>),
+    entries: (&Option<RoleEntry<'_>>, &RoleEntry<'_>),
     files: &Arc<FileTable, Global>,
     log: &G,
 ) -> Result<Vec<WebEntry>, Trouble>

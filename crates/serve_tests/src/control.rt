@@ -5,7 +5,7 @@ use crate::refusals::{NO_ENTRY, NO_HOST};
 use crate::room::Count;
 use crate::scene::{Scene, play_all};
 use crate::steps::{INIT, Step};
-use crate::visits::{Entry, Visit};
+use crate::visits::{Visit, VisitStart};
 use std::test::*;
 
 /// The answer to a request that was done.
@@ -79,7 +79,7 @@ const SCENES: &[Scene] = &[
         is_taken: false,
         hosts: HOSTS,
         full: &[Visit {
-            entry: Entry::HasPlace(NO_HOST),
+            start: VisitStart::HasPlace(NO_HOST),
             steps: &[
                 IS_HEARD,
                 &[
@@ -100,7 +100,7 @@ const SCENES: &[Scene] = &[
         is_taken: false,
         hosts: HOSTS,
         full: &[Visit {
-            entry: Entry::HasPlace(NO_HOST),
+            start: VisitStart::HasPlace(NO_HOST),
             steps: &[
                 IS_HEARD,
                 &[

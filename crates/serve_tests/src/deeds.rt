@@ -13,7 +13,7 @@ use crate::scene::{Stage, is_filled, port_of};
 use crate::sockets::{Asked, is_asked_for, is_hurried, is_kept_little};
 use crate::steps::{Step, is_taken};
 use crate::system::SocketFiles;
-use crate::visits::{Entry, enters};
+use crate::visits::{VisitStart, enters};
 use crate::{notices, standard_error};
 use std::net::{Net, TcpListener, TcpStream};
 use std::os::fd::OwnedFd;
@@ -387,7 +387,7 @@ where
         Deed::ComesAfter(name, refusal) => {
             Some(has(
                 actor,
-                enters(ear, port(stage, name), Entry::HasPlace(refusal)),
+                enters(ear, port(stage, name), VisitStart::HasPlace(refusal)),
             ))
         }
         Deed::Does(step) => Some(does(ear, stage, actor, &step)),

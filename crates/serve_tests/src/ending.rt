@@ -4,13 +4,13 @@ use crate::hosts::Host;
 use crate::room::Count;
 use crate::scene::{Scene, play_all};
 use crate::steps::{INIT, Step};
-use crate::visits::{ASKS_IN_VAIN, Entry, Visit};
+use crate::visits::{ASKS_IN_VAIN, Visit, VisitStart};
 use std::test::*;
 
 /// A viewer asks for what is new of a black screen, where nothing is new, and is let go without a byte. A read that
 /// lasts too long is an error, so a place that isn't told of the end shows.
 const IS_LET_GO: &[Visit] = &[Visit {
-    entry: Entry::IsGreeted,
+    start: VisitStart::IsGreeted,
     steps: &[&[Step::Hears(INIT), Step::IsClosedBeside], ASKS_IN_VAIN],
     told: None,
 }];

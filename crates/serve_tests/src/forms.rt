@@ -5,7 +5,7 @@ use crate::loopback::VERSION;
 use crate::room::Count;
 use crate::scene::{Scene, play_all};
 use crate::steps::Step;
-use crate::visits::{Entry, Visit};
+use crate::visits::{Visit, VisitStart};
 use std::test::*;
 
 /// The screen is 8 by 3, of 32 bits a pixel, named T (RFC 6143, 7.3.2 and 7.4).
@@ -61,7 +61,7 @@ const SCENES: &[Scene] = &[
         hosts: HOSTS,
         full: &[],
         view: &[Visit {
-            entry: Entry::IsGreeted,
+            start: VisitStart::IsGreeted,
             steps: &[&[
                 Step::Hears(INIT),
                 Step::Sends(LIST),
@@ -80,7 +80,7 @@ const SCENES: &[Scene] = &[
         hosts: HOSTS,
         full: &[],
         view: &[Visit {
-            entry: Entry::IsGreeted,
+            start: VisitStart::IsGreeted,
             steps: &[&[
                 Step::Hears(INIT),
                 Step::Sends(LIST),

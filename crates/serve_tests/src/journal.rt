@@ -5,7 +5,7 @@ use crate::refusals::{NO_PLACE, NO_PLACE_TO_VIEW};
 use crate::room::Count;
 use crate::scene::{FAULT, Scene, play_all};
 use crate::steps::{ASK, INIT, IS_SILENT, Step, TOO_LONG};
-use crate::visits::{ASKS_IN_VAIN, Entry, Visit};
+use crate::visits::{ASKS_IN_VAIN, Visit, VisitStart};
 use std::test::*;
 
 /// The screen of `INIT`, with a name of 18 bytes that would end its line of a log, and begin another.
@@ -17,13 +17,13 @@ const FORGED: &[u8] =
 const LEAVING: &[Visit] = &[
     // It closes.
     Visit {
-        entry: Entry::HasPlace(NO_PLACE),
+        start: VisitStart::HasPlace(NO_PLACE),
         steps: &[&[Step::AnotherIsRefused(NO_PLACE), Step::IsGreeted(FORGED)]],
         told: Some(" answers=0 bytes=60 why=\"ended\""),
     },
     // It sends a message that there isn't (RFC 6143, 7.5).
     Visit {
-        entry: Entry::HasPlace(NO_PLACE),
+        start: VisitStart::HasPlace(NO_PLACE),
         steps: &[&[
             Step::AnotherIsRefused(NO_PLACE),
             Step::IsGreeted(FORGED),
@@ -33,7 +33,7 @@ const LEAVING: &[Visit] = &[
     },
     // It closes with bytes unread, so that the system calls the connection broken.
     Visit {
-        entry: Entry::HasPlace(NO_PLACE),
+        start: VisitStart::HasPlace(NO_PLACE),
         steps: &[&[
             Step::AnotherIsRefused(NO_PLACE),
             Step::IsGreeted(FORGED),
@@ -46,7 +46,7 @@ const LEAVING: &[Visit] = &[
     // forward once a viewer at the other port waits for news. One more byte ends a wait that began before that. If the
     // server had looked at the clock already, it has broken the connection by then.
     Visit {
-        entry: Entry::HasPlace(NO_PLACE),
+        start: VisitStart::HasPlace(NO_PLACE),
         steps: &[&[
             Step::AnotherIsRefused(NO_PLACE),
             Step::Hears(b"RFB 003.008\n\x01\x01"),
@@ -59,7 +59,7 @@ const LEAVING: &[Visit] = &[
     },
     // It waits for news until it is let go.
     Visit {
-        entry: Entry::HasPlace(NO_PLACE),
+        start: VisitStart::HasPlace(NO_PLACE),
         steps: &[
             &[Step::AnotherIsRefused(NO_PLACE), Step::IsGreeted(FORGED)],
             ASKS_IN_VAIN,
@@ -70,7 +70,7 @@ const LEAVING: &[Visit] = &[
 
 /// One at the other port.
 const LOOKING_ON: &[Visit] = &[Visit {
-    entry: Entry::HasPlace(NO_PLACE_TO_VIEW),
+    start: VisitStart::HasPlace(NO_PLACE_TO_VIEW),
     steps: &[
         &[
             Step::AnotherIsRefused(NO_PLACE_TO_VIEW),

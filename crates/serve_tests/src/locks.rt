@@ -4,7 +4,7 @@ use crate::hosts::Host;
 use crate::loopback::VERSION;
 use crate::scene::{FAULT, Scene, play_all};
 use crate::steps::{INIT, Step};
-use crate::visits::{Entry, Visit};
+use crate::visits::{Visit, VisitStart};
 use std::fs;
 use std::test::*;
 
@@ -74,12 +74,12 @@ const SCENES: &[Scene] = &[
             ],
         }],
         full: &[Visit {
-            entry: Entry::Connects,
+            start: VisitStart::Connects,
             steps: &[KNOWS_THE_PASSWORD],
             told: Some(" answers=0 bytes=43 why=\"ended\""),
         }],
         view: &[Visit {
-            entry: Entry::Connects,
+            start: VisitStart::Connects,
             steps: &[KNOWS_THE_OTHER],
             told: Some(" answers=0 bytes=43 why=\"ended\""),
         }],

@@ -6,7 +6,7 @@ use crate::refusals::NO_HOST;
 use crate::room::Count;
 use crate::scene::{FAULT, Scene, play_all};
 use crate::steps::{INIT, Step};
-use crate::visits::{Entry, Visit};
+use crate::visits::{Visit, VisitStart};
 use std::test::*;
 
 /// Longer than the time, in seconds, after which the log tells again of hosts that still aren't there.
@@ -36,7 +36,7 @@ const SCENES: &[Scene] = &[
             steps: &[Step::IsJoined(INIT), Step::Updates(1, 1)],
         }],
         full: &[Visit {
-            entry: Entry::IsGreeted,
+            start: VisitStart::IsGreeted,
             steps: &[&[
                 Step::Hears(INIT),
                 Step::IsClosedBeside,
@@ -66,12 +66,12 @@ const SCENES: &[Scene] = &[
         }],
         full: &[
             Visit {
-                entry: Entry::Connects,
+                start: VisitStart::Connects,
                 steps: &[COMES_EARLY],
                 told: None,
             },
             Visit {
-                entry: Entry::HasPlace(NO_HOST),
+                start: VisitStart::HasPlace(NO_HOST),
                 steps: &[&[Step::IsGreeted(INIT)]],
                 told: Some(" answers=0 bytes=43 why=\"ended\""),
             },

@@ -5,7 +5,7 @@ use crate::loopback::VERSION;
 use crate::room::Count;
 use crate::scene::{FAULT, Scene, play_all};
 use crate::steps::{ASKED, INIT, Step};
-use crate::visits::{Entry, Visit};
+use crate::visits::{Visit, VisitStart};
 use std::fs;
 use std::test::*;
 
@@ -60,7 +60,7 @@ const SCENES: &[Scene] = &[
             steps: LETS_IN,
         }],
         full: &[Visit {
-            entry: Entry::IsGreeted,
+            start: VisitStart::IsGreeted,
             steps: &[&[
                 Step::Hears(INIT),
                 Step::IsShown(1),

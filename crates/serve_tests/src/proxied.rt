@@ -3,7 +3,7 @@
 use crate::hosts::Host;
 use crate::scene::{FAULT, Scene, play_all};
 use crate::steps::{INIT, Step};
-use crate::visits::{Entry, Visit};
+use crate::visits::{Visit, VisitStart};
 use std::test::*;
 
 /// The header of a proxy that was connected to from 192.0.2.7, port 4711 (the PROXY protocol, 2.2), and a viewer's
@@ -26,7 +26,7 @@ const SCENES: &[Scene] = &[
             ],
         }],
         full: &[Visit {
-            entry: Entry::Connects,
+            start: VisitStart::Connects,
             steps: &[&[Step::Sends(HEADER_AND_VERSION), Step::IsGreeted(INIT)]],
             told: None,
         }],

@@ -5,7 +5,7 @@ use crate::hosts::Host;
 use crate::room::Count;
 use crate::scene::{FAULT, Scene, play_all};
 use crate::steps::{BLACK as BLACK_PAIR, INIT, Step};
-use crate::visits::{Entry, Visit};
+use crate::visits::{Visit, VisitStart};
 use std::test::*;
 
 /// The screen of `INIT` with other sizes: 3 by 2, which is the room's, 1 by 2, and 4 by 1.
@@ -123,7 +123,7 @@ const SCENES: &[Scene] = &[
         ],
         full: &[],
         view: &[Visit {
-            entry: Entry::IsGreeted,
+            start: VisitStart::IsGreeted,
             steps: &[&[
                 Step::Hears(ROOM),
                 Step::AsksUntil(ASK_NEW, BLACK, FIRST),
@@ -158,7 +158,7 @@ const SCENES: &[Scene] = &[
             ],
         }],
         full: &[Visit {
-            entry: Entry::IsGreeted,
+            start: VisitStart::IsGreeted,
             steps: &[&[
                 Step::Hears(ROOM),
                 Step::Sends(TAKES_SIZES),
@@ -174,7 +174,7 @@ const SCENES: &[Scene] = &[
             told: None,
         }],
         view: &[Visit {
-            entry: Entry::IsGreeted,
+            start: VisitStart::IsGreeted,
             steps: &[&[
                 Step::Hears(ROOM),
                 Step::AsksUntil(ASK_NEW, BLACK, FIRST),
@@ -264,7 +264,7 @@ const SCENES: &[Scene] = &[
         ],
         full: &[],
         view: &[Visit {
-            entry: Entry::IsGreeted,
+            start: VisitStart::IsGreeted,
             steps: &[SEES_BOTH],
             told: None,
         }],
@@ -299,7 +299,7 @@ const SCENES: &[Scene] = &[
         ],
         full: &[],
         view: &[Visit {
-            entry: Entry::IsGreeted,
+            start: VisitStart::IsGreeted,
             steps: &[SEES_BOTH],
             told: None,
         }],

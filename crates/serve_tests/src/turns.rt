@@ -4,7 +4,7 @@ use crate::hosts::Host;
 use crate::room::Count;
 use crate::scene::{FAULT, Scene, play_all};
 use crate::steps::{ASK, ASK_NEW, INIT, Step};
-use crate::visits::{Entry, Visit};
+use crate::visits::{Visit, VisitStart};
 use std::test::*;
 
 /// What a viewer with full control gives after each of the updates from 1 on, all of which a host is told: keys and
@@ -205,12 +205,12 @@ const SCENES: &[Scene] = &[
         is_taken: false,
         hosts: HOSTS,
         full: &[Visit {
-            entry: Entry::IsGreeted,
+            start: VisitStart::IsGreeted,
             steps: TYPES,
             told: None,
         }],
         view: &[Visit {
-            entry: Entry::IsGreeted,
+            start: VisitStart::IsGreeted,
             steps: TYPES_IN_VAIN,
             told: None,
         }],
@@ -243,7 +243,7 @@ const SCENES: &[Scene] = &[
             },
         ],
         full: &[Visit {
-            entry: Entry::IsGreeted,
+            start: VisitStart::IsGreeted,
             steps: &[&[
                 Step::Hears(INIT),
                 Step::IsClosedBeside,

@@ -5,7 +5,7 @@ use crate::loopback::RED_AND_BLUE;
 use crate::room::Count;
 use crate::scene::{Scene, play_all};
 use crate::steps::{ASK, ASK_NEW, BLACK, INIT, Step};
-use crate::visits::{Entry, Visit};
+use crate::visits::{Visit, VisitStart};
 use std::test::*;
 
 /// The host ends once its updates were shown, and `serve` ends with it, without a fault.
@@ -24,7 +24,7 @@ const SCENES: &[Scene] = &[
             ],
         }],
         full: &[Visit {
-            entry: Entry::IsGreeted,
+            start: VisitStart::IsGreeted,
             steps: &[&[
                 Step::Hears(INIT),
                 Step::IsClosedBeside,
@@ -47,7 +47,7 @@ const SCENES: &[Scene] = &[
             steps: &[Step::IsJoined(INIT), Step::Updates(1, 1_000)],
         }],
         full: &[Visit {
-            entry: Entry::IsGreeted,
+            start: VisitStart::IsGreeted,
             steps: &[&[
                 Step::Hears(INIT),
                 Step::IsClosedBeside,

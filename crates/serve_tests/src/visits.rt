@@ -24,7 +24,7 @@ pub(crate) const ASKS_IN_VAIN: &[Step] = &[
 
 /// A viewer.
 pub(crate) struct Visit {
-    pub(crate) entry: Entry,
+    pub(crate) start: VisitStart,
     /// What it does once it came in, in parts.
     pub(crate) steps: &'static [&'static [Step]],
     /// How the log ends its line of the viewer that has left, after the address, if a log is kept.
@@ -33,7 +33,7 @@ pub(crate) struct Visit {
 
 /// How a viewer comes.
 #[derive(Clone, Copy)]
-pub(crate) enum Entry {
+pub(crate) enum VisitStart {
     /// It connects.
     Connects,
     /// It is greeted up to its screen. One that is told that there is no host yet comes again.
@@ -69,7 +69,7 @@ fn is_visit_right<R>(ear: &Ear<R>, door: &Door, visit: &Visit) -> bool
 where
     R: Net<Stream = TcpStream, Listener = TcpListener> + SocketFiles + Wait + Clock + Drop,
 {
-    match enters(ear, door.port, visit.entry) {
+    match enters(ear, door.port, visit.start) {
         Some(mut stream) => {
             let address = address_of(&stream);
             let is_right = wants_visit(ear, door, visit, address)
@@ -94,13 +94,13 @@ where
 }
 
 /// A viewer that comes in. Some before it may be sent back.
-pub(crate) fn enters<R>(ear: &Ear<R>, port: u16, entry: Entry) -> Option<TcpStream>
+pub(crate) fn enters<R>(ear: &Ear<R>, port: u16, start: VisitStart) -> Option<TcpStream>
 where
     R: Net<Stream = TcpStream, Listener = TcpListener> + Wait + Clock + Drop,
 {
     for _ in 0..TRIES {
         let mut stream = connect(ear, port)?;
-        match is_sent_back(ear, entry, &mut stream) {
+        match is_sent_back(ear, start, &mut stream) {
             Some(true) => {}
             Some(false) => return Some(stream),
             None => return None,
@@ -110,14 +110,14 @@ where
 }
 
 /// Whether a viewer that has connected is sent back. There is no answer where it is told something else.
-fn is_sent_back<R>(ear: &Ear<R>, entry: Entry, stream: &mut TcpStream) -> Option<bool>
+fn is_sent_back<R>(ear: &Ear<R>, start: VisitStart, stream: &mut TcpStream) -> Option<bool>
 where
     R: Net<Stream = TcpStream, Listener = TcpListener> + Wait + Clock + Drop,
 {
-    match entry {
-        Entry::Connects => Some(false),
-        Entry::IsGreeted => is_early(stream),
-        Entry::HasPlace(refusal) => Some(
+    match start {
+        VisitStart::Connects => Some(false),
+        VisitStart::IsGreeted => is_early(stream),
+        VisitStart::HasPlace(refusal) => Some(
             sends(stream, VERSION) && is_refused(ear, refusal, stream),
         ),
     }

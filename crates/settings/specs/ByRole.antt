@@ -2,8 +2,8 @@
 use Rattle.std.specs.Prelude.{ℕ, ◌≤◌, List, Option, None, if◌then◌else◌, option_map}
 use Rattle.std.specs.Option.{option_map_or}
 use Rattle.std.specs.String.{string_bytes}
-use Rattle.joined_runs.specs.declared.runs.Runs.{Runs}
-use Rattle.joined_runs.specs.declared.runs.Runs.TheVariants.{OfRows, Joined}
+use Rattle.joined_runs.specs.declared.rect_form.RectForm.{RectForm}
+use Rattle.joined_runs.specs.declared.rect_form.RectForm.TheVariants.{OfRows, Joined}
 use Rattle.roles.specs.declared.role.Role.{Role}
 use Rattle.roles.specs.declared.role.Role.TheVariants.{Full, View}
 use Rattle.settings.specs.declared.values.Settings.{Settings}
@@ -34,8 +34,8 @@ bind_for Full settings = option_map_or string_bytes settings.full_bind (string_b
 bind_for View settings = string_bytes settings.bind
 
 -- The form in which viewers are answered: joined runs, unless the runs of rows are asked for.
-abbrev pub runs_for : Settings → Runs
-runs_for settings = if settings.plain_runs then OfRows else Joined
+abbrev pub rect_form_for : Settings → RectForm
+rect_form_for settings = if settings.plain_runs then OfRows else Joined
 
 -- From 1 to 32 places for each role.
 abbrev pub HasPlaces : Settings → Type 0

@@ -2,12 +2,12 @@
 
 ghost use Rattle.std.specs.Prelude.{◌≡◌, ◌≤◌, option_map, true};
 ghost use Rattle.raster.specs.Size.{IsScreenSize};
-ghost use Rattle.settings.specs.ByRole.{bind_for, password_file_for, places_for, port_for, runs_for, web_port_for};
+ghost use Rattle.settings.specs.ByRole.{bind_for, password_file_for, places_for, port_for, rect_form_for, web_port_for};
 ghost use Rattle.settings.specs.Rooms.{FitsInto, IsRoomFor};
 
 use crate::room::Room;
 use crate::values::Settings;
-use joined_runs::Runs;
+use joined_runs::RectForm;
 use roles::Role;
 
 /// The port of the browsers of a role, if there is one: none with full control where all only look on.
@@ -70,13 +70,13 @@ pub fn places_of(settings: &Settings, role: Role) -> u64
 }
 
 /// The form in which all viewers are answered, in RRE and in Hextile.
-pub fn runs_of(settings: &Settings) -> Runs
-    ensures { result ≡ runs_for settings.now }
+pub fn rect_form_of(settings: &Settings) -> RectForm
+    ensures { result ≡ rect_form_for settings.now }
 {
     if settings.plain_runs {
-        Runs::OfRows
+        RectForm::OfRows
     } else {
-        Runs::Joined
+        RectForm::Joined
     }
 }
 

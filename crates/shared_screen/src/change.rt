@@ -4,7 +4,7 @@ use painter::Patch;
 use std::marker::Model;
 
 /// What a change of the history does.
-enum Kind {
+enum ChangeKind {
     /// The update of this patch is put.
     Put(Patch),
     /// The tally becomes this number of updates.
@@ -13,7 +13,7 @@ enum Kind {
 
 /// An update is put, or the tally is raised. Only contracts speak of changes: no value of this type is ever made.
 pub struct Change {
-    kind: Kind,
+    kind: ChangeKind,
 }
 
 impl Model for Change {

@@ -9,7 +9,7 @@ use Rattle.raster.specs.declared.encoding.Encoding.TheVariants.{Raw, Rre, Hextil
 use Rattle.raster.specs.Screen.{Canvas}
 use Rattle.raster.specs.Update.{Paints, Put, Update}
 use Rattle.rfb_wire.specs.ClientMessage.{Choice}
-use Rattle.joined_runs.specs.declared.runs.Runs.TheVariants.{OfRows, Joined}
+use Rattle.joined_runs.specs.declared.rect_form.RectForm.TheVariants.{OfRows, Joined}
 use Rattle.update_encoder.specs.Answer.{answer_bytes}
 use Rattle.update_encoder.specs.Style.{Style}
 use Rattle.update_encoder.specs.Follower.{Received, Format, Answer, HoldsArea, follower, only_message}

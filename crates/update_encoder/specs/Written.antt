@@ -7,7 +7,7 @@ use Rattle.raster.specs.Encoding.{encoding_number}
 use Rattle.raster.specs.Screen.{IsWithin, tile_rect}
 use Rattle.raster.specs.Update.{Update, screen}
 use Rattle.raster.specs.Size.{IsScreenSize}
-use Rattle.joined_runs.specs.declared.runs.Runs.{Runs}
+use Rattle.joined_runs.specs.declared.rect_form.RectForm.{RectForm}
 use Rattle.joined_runs.specs.Joined.{form_of, saves_bytes_as}
 use Rattle.rfb_wire.specs.Writing.{rectangle_bytes}
 use Rattle.tiles.specs.Have.{SentTiles, sent_at}
@@ -25,7 +25,7 @@ pub record IsFront (bytes now : List ℕ) (n : ℕ) : Type 0 where
 
 -- At the front stands a rectangle in an encoding, and the number is how many bytes it has. Where there is no number,
 -- the encoding doesn't save bytes.
-abbrev pub IsSaved : Runs → Encoding → PixelFormat → Rect → List ℕ → List ℕ → Option ℕ → Type 0
+abbrev pub IsSaved : RectForm → Encoding → PixelFormat → Rect → List ℕ → List ℕ → Option ℕ → Type 0
 IsSaved runs kind format r values now (Some n) =
     (saves_bytes_as runs kind format r.w r.h values ≡ true) × IsFront (rectangle_bytes r (encoding_number kind) (form_of runs kind format r.w r.h values)) now n
 IsSaved runs kind format r values now None = saves_bytes_as runs kind format r.w r.h values ≡ false

@@ -17,7 +17,7 @@ ghost use Rattle.update_encoder.specs.Written.{IsFront, IsSaved};
 use crate::copied::repeats;
 use crate::style::Style;
 use hextile_codec::{PixelSource, TileForm};
-use joined_runs::Runs;
+use joined_runs::RectForm;
 use painter::AreaSource;
 use pixel_format::Format;
 use raster::{COPY_RECT, Encoding, Rect, tile_count, tint_rows, write_rows};
@@ -51,8 +51,8 @@ fn kept_forms<'a>(style: &Style, source: &AreaSource<'a>, area: &Rect) -> &'a [O
         → AreKept style.now.format area.now.w area.now.h pixels result.now }
 {
     match style.runs {
-        Runs::OfRows => &[],
-        Runs::Joined => source.kept_forms(area, &style.format),
+        RectForm::OfRows => &[],
+        RectForm::Joined => source.kept_forms(area, &style.format),
     }
 }
 
@@ -143,7 +143,7 @@ fn copy_encoded(style: &Style, cut: &Cut, area: &Rect, out: &mut [u8]) -> Option
     ensures { IfSome result (λ n. IsEncodedAs style.now.runs Hextile style.now.format area.now.w
         area.now.h (pixels_in style.now.format (shown cut.now) area.now) out.new (Some n)) }
 {
-    if style.runs != Runs::Joined {
+    if style.runs != RectForm::Joined {
         return None;
     }
     let bytes = cut.encoded(area, &style.format)?;

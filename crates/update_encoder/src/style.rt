@@ -1,6 +1,6 @@
 //! How an answer writes its rectangles.
 
-use joined_runs::Runs;
+use joined_runs::RectForm;
 use pixel_format::Format;
 use rfb_wire::Choice;
 
@@ -8,7 +8,7 @@ use rfb_wire::Choice;
 /// (RFC 6143, 7.5.1 and 7.5.2).
 #[derive(Clone, Copy)]
 pub struct Style {
-    pub runs: Runs,
+    pub runs: RectForm,
     pub format: Format,
     pub choice: Choice,
 }

@@ -11,7 +11,7 @@ use Rattle.raster.specs.declared.size.Size.{Size}
 use Rattle.raster.specs.Screen.{IsWithin, tile_count, tile_rect}
 use Rattle.raster.specs.Update.{Resized, Update, last_size, screen}
 use Rattle.raster.proofs.Places.{holds_has}
-use Rattle.joined_runs.specs.declared.runs.Runs.{Runs}
+use Rattle.joined_runs.specs.declared.rect_form.RectForm.{RectForm}
 use Rattle.rfb_wire.specs.ClientMessage.{ClientMessage, SetPixelFormat, SetEncodings, Ask, Key, Pointer, CutText, LostText}
 use Rattle.rfb_wire.specs.ServerMessage.{FramebufferUpdate}
 use Rattle.rfb_wire.specs.Writing.{size_bytes}
@@ -162,12 +162,12 @@ held_made_cut w h us es stream k =
 -- ---- an answer
 
 -- Its bytes bring what is due in the area, go on with the stream, and leave it so.
-record GoesOn (form : Runs) (w h : ℕ) (us : List Update) (es : List Entry) (area : Rect) (bytes : List ℕ) (stream after : ZlibStream) : Type 0 where
+record GoesOn (form : RectForm) (w h : ℕ) (us : List Update) (es : List Entry) (area : Rect) (bytes : List ℕ) (stream after : ZlibStream) : Type 0 where
   rectangles : List Rect
   covers : BringTheDue w h area (due_tile w h es us) rectangles
   is : IsAnswer (zrle_style_of form es) (screen us) (all_were_sent w h es us area) rectangles stream bytes after
 
-held_answered : (form : Runs) (w h : ℕ) (us : List Update) (es : List Entry) (whole : Rect) (bytes : List ℕ) (stream after : ZlibStream) → w ≤ 4096 → h ≤ 4096 → pending (events w h es) ≡ Some whole
+held_answered : (form : RectForm) (w h : ℕ) (us : List Update) (es : List Entry) (whole : Rect) (bytes : List ℕ) (stream after : ZlibStream) → w ≤ 4096 → h ≤ 4096 → pending (events w h es) ≡ Some whole
     → GoesOn form w h us es (inside w h es whole) bytes stream after → HoldsSoFar w h us es stream
     → HoldsSoFar w h us (Began (inside w h es whole) (length us) bytes ∷ MadeCut (length us) ∷ es) after
 held_answered form w h us es whole bytes stream after lw lh asked goes k =
@@ -207,7 +207,7 @@ held_answered form w h us es whole bytes stream after lw lh asked goes k =
 
 -- ---- an answer whose bytes aren't chosen
 
-held_if : (form : Runs) (w h : ℕ) (us : List Update) (es : List Entry) (whole : Rect) (stream : ZlibStream) (b : Bool) → w ≤ 4096 → h ≤ 4096 → pending (events w h es) ≡ Some whole → HoldsSoFar w h us es stream
+held_if : (form : RectForm) (w h : ℕ) (us : List Update) (es : List Entry) (whole : Rect) (stream : ZlibStream) (b : Bool) → w ≤ 4096 → h ≤ 4096 → pending (events w h es) ≡ Some whole → HoldsSoFar w h us es stream
     → HoldsSoFar w h us (began_at (length us) (cond b (Some (inside w h es whole, bytes_for form w h es us (inside w h es whole))) None) (MadeCut (length us) ∷ es)) stream
 held_if form w h us es whole stream true lw lh asked k =
     let area : Rect = inside w h es whole in
@@ -220,7 +220,7 @@ held_if form w h us es whole stream true lw lh asked k =
     }) k
 held_if form w h us es whole stream false lw lh asked k = held_made_cut w h us es stream k
 
-held_for : (form : Runs) (w h : ℕ) (us : List Update) (es : List Entry) (stream : ZlibStream) (o : Option Rect) → pending (events w h es) ≡ o → w ≤ 4096 → h ≤ 4096 → HoldsSoFar w h us es stream
+held_for : (form : RectForm) (w h : ℕ) (us : List Update) (es : List Entry) (stream : ZlibStream) (o : Option Rect) → pending (events w h es) ≡ o → w ≤ 4096 → h ≤ 4096 → HoldsSoFar w h us es stream
     → HoldsSoFar w h us (began_at (length us) (update_for form w h es us (clipped_to (told_of w h es) o)) (MadeCut (length us) ∷ es)) stream
 held_for form w h us es stream None e lw lh k = held_made_cut w h us es stream k
 held_for form w h us es stream (Some whole) e lw lh k =
@@ -247,7 +247,7 @@ held_told w h us es stream size lw lh fits k =
       answers = k.answers;
     }
 
-held_begun : (form : Runs) (w h : ℕ) (us : List Update) (es : List Entry) (stream : ZlibStream) (o : Option Size) → w ≤ 4096 → h ≤ 4096 → Fits w h o → HoldsSoFar w h us es stream
+held_begun : (form : RectForm) (w h : ℕ) (us : List Update) (es : List Entry) (stream : ZlibStream) (o : Option Size) → w ≤ 4096 → h ≤ 4096 → Fits w h o → HoldsSoFar w h us es stream
     → HoldsSoFar w h us (told_at (length us) o (update_at form w h es us) (MadeCut (length us) ∷ es)) stream
 held_begun form w h us es stream None lw lh fits k = held_for form w h us es stream (pending (events w h es)) refl lw lh k
 held_begun form w h us es stream (Some size) lw lh fits k = held_told w h us es stream size lw lh fits k

@@ -8,7 +8,7 @@ use Rattle.raster.specs.Screen.{tile_count}
 use Rattle.raster.specs.Update.{Update}
 use Rattle.rfb_wire.specs.Writing.{update_head_bytes}
 use Rattle.rfb_wire.specs.ClientMessage.{Choice}
-use Rattle.joined_runs.specs.declared.runs.Runs.{Runs}
+use Rattle.joined_runs.specs.declared.rect_form.RectForm.{RectForm}
 use Rattle.reflect_core.specs.declared.cut.Cut as cutting
 use Rattle.reflect_core.specs.Source.{IsCutOf}
 use Rattle.update_encoder.specs.Coming.{Answering, coming}
@@ -46,7 +46,7 @@ due_by : (b : Bool) (x found : Rect × List ℕ) → cond b (Some x) None ≡ So
 due_by true x found e = refl
 due_by false x found e = absurd cc
 
-due_there : (form : Runs) (w h : ℕ) (es : List Entry) (us : List Update) (area : Rect) (found : Rect × List ℕ) → update_for form w h es us (Some area) ≡ Some found → list_any (due_tile_in w h es us area) (range_with_len 0 (tile_count w h)) ≡ true
+due_there : (form : RectForm) (w h : ℕ) (es : List Entry) (us : List Update) (area : Rect) (found : Rect × List ℕ) → update_for form w h es us (Some area) ≡ Some found → list_any (due_tile_in w h es us area) (range_with_len 0 (tile_count w h)) ≡ true
 due_there form w h es us area found e = due_by (list_any (due_tile_in w h es us area) (range_with_len 0 (tile_count w h))) _ found e
 
 part_alone : (size : Option Size) (begun : List ℕ) (here : Option (Rect × List ℕ)) → size ≡ None → size_and size begun ≡ size_or_update size here → begun ≡ update_part here

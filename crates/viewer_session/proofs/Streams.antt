@@ -9,7 +9,7 @@ use Rattle.raster.specs.declared.size.Size.{Size}
 use Rattle.raster.specs.Update.{Paint, Resized, Update, Paints, Cut, bells, last_text, last_text_from, NumberedText}
 use Rattle.raster.specs.Update as update
 use Rattle.raster.proofs.Spellings.{Each}
-use Rattle.joined_runs.specs.declared.runs.Runs.{Runs}
+use Rattle.joined_runs.specs.declared.rect_form.RectForm.{RectForm}
 use Rattle.rfb_wire.specs.ClientMessage.{ClientMessage, SetPixelFormat, SetEncodings, Ask, Key, Pointer, CutText, LostText, longest_text}
 use Rattle.rfb_wire.specs.ServerMessage as server
 use Rattle.rfb_wire.specs.ServerMessage.{ServerMessage, FramebufferUpdate, Bell, ServerCutText, server_message}
@@ -208,5 +208,5 @@ stream_begun w h us es (Some size) o =
     ∙ (ap (λ t. t ++ size_bytes size) (stream_cut w h us es) ∙ append_assoc (stream_of (heard w h us es)) (news_at us (news_since w h es)) (size_bytes size))
 
 -- A cut sends what its record comes to.
-pub stream_after_cut : (form : Runs) (w h : ℕ) (host : Option Size) (us : List Update) (es : List Entry) → stream_of (heard w h us (record_after_cut form w h host es us)) ≡ stream_of (heard w h us es) ++ sent_at form w h host es us
+pub stream_after_cut : (form : RectForm) (w h : ℕ) (host : Option Size) (us : List Update) (es : List Entry) → stream_of (heard w h us (record_after_cut form w h host es us)) ≡ stream_of (heard w h us es) ++ sent_at form w h host es us
 stream_after_cut form w h host us es = stream_begun w h us es (size_at w h host es us) (update_at form w h es us)

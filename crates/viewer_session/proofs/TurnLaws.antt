@@ -29,7 +29,7 @@ use Rattle.reflect_core.proofs.CutLaws.{marks_due}
 use Rattle.update_encoder.specs.Answer.{all_spelled, answer_bytes}
 use Rattle.update_encoder.specs.Style.{Style}
 use Rattle.update_encoder.proofs.Counts.{count_spelled}
-use Rattle.joined_runs.specs.declared.runs.Runs.{Runs}
+use Rattle.joined_runs.specs.declared.rect_form.RectForm.{RectForm}
 use Rattle.update_encoder.specs.Coming.{shown}
 use Rattle.update_encoder.specs.Written.{is_due_of}
 use Rattle.update_encoder.proofs.CutLaws.{cut_is_answered}
@@ -106,7 +106,7 @@ if_not b false x y e f = ap (λ t. if t then None else Some x) e
 on_screen : (area : Rect) (w h v u : ℕ) → w ≡ v → h ≡ u → IsWithin area v u → IsWithin area w h
 on_screen area w h v u ew eh on = record { across = omega (arith, on.across, ew); down = omega (arith, on.down, eh) }
 
-update_same : (form : Runs) (known : List Update) (n : ℕ) (area : Rect) (have : SentTiles) (cut : cutting.Cut) (entries : List Entry) (style : Style)
+update_same : (form : RectForm) (known : List Update) (n : ℕ) (area : Rect) (have : SentTiles) (cut : cutting.Cut) (entries : List Entry) (style : Style)
     → IsCutOf known n area have cut → have.width ≡ cut.width → have.height ≡ cut.height → IsScreenSize cut.width cut.height → IsWithin area cut.width cut.height
     → HaveStands have (events have.width have.height entries) → style ≡ style_of form entries
     → update_of style cut area ≡ update_for form have.width have.height entries (take n known) (Some area)
@@ -141,7 +141,7 @@ update_same form known n area have cut entries style is ew eh size on stood same
     (area, answer_bytes (style_of form entries) (screen us) all (runs w h area due)) test (ap (λ (bs : List ℕ). (area, bs)) bytes)
 
 -- The same over a screen of w by h.
-update_on : (form : Runs) (w h : ℕ) (known : List Update) (n : ℕ) (area : Rect) (have : SentTiles) (cut : cutting.Cut) (entries : List Entry) (style : Style)
+update_on : (form : RectForm) (w h : ℕ) (known : List Update) (n : ℕ) (area : Rect) (have : SentTiles) (cut : cutting.Cut) (entries : List Entry) (style : Style)
     → have.width ≡ w → have.height ≡ h → IsCutOf known n area have cut → have.width ≡ cut.width → have.height ≡ cut.height → IsScreenSize cut.width cut.height → IsWithin area cut.width cut.height
     → HaveStands have (events w h entries) → style ≡ style_of form entries
     → update_of style cut area ≡ update_for form w h entries (take n known) (Some area)
@@ -160,7 +160,7 @@ pub record IsCutFor (st : State) (cut : cutting.Cut) (nowhere : Rect) (known : L
   pub size : IsScreenSize cut.width cut.height
   pub within : IsWithin (unwrap_or (asked_now st) nowhere) cut.width cut.height
 
-pub same_style : (st : State) (form : Runs) (entries : List Entry) → st.runs ≡ form → st.format ≡ format_of entries → st.choice ≡ choice_of entries → style_now st ≡ style_of form entries
+pub same_style : (st : State) (form : RectForm) (entries : List Entry) → st.runs ≡ form → st.format ≡ format_of entries → st.choice ≡ choice_of entries → style_now st ≡ style_of form entries
 same_style st form entries e f g = λ i. record { runs = e i; format = f i; choice = g i }
 
 update_by : (s : Setup) (st : State) (p : Viewer) (cut : cutting.Cut) (known : List Update) (n : ℕ) (nowhere : Rect) (area : Option Rect) → Serves s st p

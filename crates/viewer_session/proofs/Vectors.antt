@@ -8,7 +8,7 @@ use Rattle.raster.specs.declared.size.Size.{Size}
 use Rattle.raster.specs.declared.encoding.Encoding.TheVariants.{Raw, Rre, Hextile}
 use Rattle.raster.specs.Update.{Update, Paints, Put, Resized, of_paints}
 use Rattle.raster.specs.Update as update
-use Rattle.joined_runs.specs.declared.runs.Runs.TheVariants.{OfRows, Joined}
+use Rattle.joined_runs.specs.declared.rect_form.RectForm.TheVariants.{OfRows, Joined}
 use Rattle.rfb_wire.specs.ClientMessage.{SetPixelFormat, SetEncodings, Ask, Key}
 use Rattle.rfb_wire.specs.ServerMessage.{FramebufferUpdate, ServerCutText}
 use Rattle.rfb_wire.specs.ServerMessage as server

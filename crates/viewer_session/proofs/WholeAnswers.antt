@@ -8,7 +8,7 @@ use Rattle.raster.specs.Screen.{holds, meets, tile_count, tile_rect}
 use Rattle.raster.specs.Size.{IsScreenSize}
 use Rattle.raster.specs.Update.{Update, screen}
 use Rattle.raster.proofs.Places.{Has, has_holds, holds_has, meets_at, tile_of, tile_of_has, tile_of_there}
-use Rattle.joined_runs.specs.declared.runs.Runs.{Runs}
+use Rattle.joined_runs.specs.declared.rect_form.RectForm.{RectForm}
 use Rattle.tiles.specs.Brings.{BringTheDue, IsPart, some_holds}
 use Rattle.tiles.specs.Have.{SentTiles, HaveStands}
 use Rattle.tiles.proofs.HaveLaws.{sent_at_stands}
@@ -28,7 +28,7 @@ use Rattle.viewer_session.specs.Turn.{all_were_sent, due_tile, due_tile_in, styl
 use Rattle.viewer_session.proofs.SameRuns.{all_same}
 
 -- Bytes are an answer of rectangles that bring what is due in an area, of the screen after these updates.
-pub record AnswersOf (form : Runs) (w h : ℕ) (es : List Entry) (us : List Update) (area : Rect) (stream : ZlibStream) (bytes : List ℕ) (after : ZlibStream) : Type 0 where
+pub record AnswersOf (form : RectForm) (w h : ℕ) (es : List Entry) (us : List Update) (area : Rect) (stream : ZlibStream) (bytes : List ℕ) (after : ZlibStream) : Type 0 where
   pub rectangles : List Rect
   pub brings : BringTheDue w h area (due_tile w h es us) rectangles
   pub answers : IsAnswer (zrle_style_of form es) (screen us) (all_were_sent w h es us area) rectangles stream bytes after
@@ -89,7 +89,7 @@ module _ (known : List Update) (n : ℕ) (area : Rect) (have : SentTiles) (cut :
       let both = and_parts (holds area x y) (marked cut t) (sym (k.exactly t x y there tile) ∙ e) in
       is.colours t x y there (sym (ap (λ (o : Option Bool). unwrap_or o false) (is.due t there)) ∙ both.1) both.0 tile
 
-  answers_here : (form : Runs) (style : Style) (rs : List Rect) (stream after : ZlibStream) (bytes : List ℕ) → style ≡ style_of form es → BringTheDue cut.width cut.height area (marked cut) rs
+  answers_here : (form : RectForm) (style : Style) (rs : List Rect) (stream after : ZlibStream) (bytes : List ℕ) → style ≡ style_of form es → BringTheDue cut.width cut.height area (marked cut) rs
       → IsAnswer (with_zrle style) (shown cut) cut.all_were_sent rs stream bytes after → AnswersOf form w h es us area stream bytes after
   answers_here form style rs stream after bytes same covers answers =
       let here : BringTheDue w h area (marked cut) rs = subst (λ v. BringTheDue v h area (marked cut) rs) (sym ew) (subst (λ u. BringTheDue cut.width u area (marked cut) rs) (sym eh) covers) in
@@ -103,7 +103,7 @@ module _ (known : List Update) (n : ℕ) (area : Rect) (have : SentTiles) (cut :
       }
 
 -- The same over a screen of w by h.
-pub answers_on : (form : Runs) (w h : ℕ) (known : List Update) (n : ℕ) (area : Rect) (have : SentTiles) (cut : cutting.Cut) (es : List Entry) (style : Style) (rs : List Rect) (stream after : ZlibStream) (bytes : List ℕ)
+pub answers_on : (form : RectForm) (w h : ℕ) (known : List Update) (n : ℕ) (area : Rect) (have : SentTiles) (cut : cutting.Cut) (es : List Entry) (style : Style) (rs : List Rect) (stream after : ZlibStream) (bytes : List ℕ)
     → have.width ≡ w → have.height ≡ h → IsCutOf known n area have cut → have.width ≡ cut.width → have.height ≡ cut.height → HaveStands have (events w h es) → style ≡ style_of form es
     → BringTheDue cut.width cut.height area (marked cut) rs → IsAnswer (with_zrle style) (shown cut) cut.all_were_sent rs stream bytes after → AnswersOf form w h es (take n known) area stream bytes after
 answers_on form w h known n area have cut es style rs stream after bytes v u is ew eh stood same covers answers =

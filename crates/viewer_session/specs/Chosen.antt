@@ -4,7 +4,7 @@ use Rattle.std.specs.List.{list_any, range_with_len}
 use Rattle.raster.specs.declared.rect.Rect.{Rect}
 use Rattle.raster.specs.Screen.{tile_count}
 use Rattle.raster.specs.Update.{Update, screen}
-use Rattle.joined_runs.specs.declared.runs.Runs.{Runs}
+use Rattle.joined_runs.specs.declared.rect_form.RectForm.{RectForm}
 use Rattle.tiles.specs.Brings.{BringTheDue}
 use Rattle.update_encoder.specs.Follower.{HoldsArea}
 use Rattle.zrle_answer.specs.Rectangle.{ZlibStream}
@@ -15,7 +15,7 @@ use Rattle.viewer_session.specs.Turn.{Chosen, all_were_sent, asked_part, due_til
 use Rattle.viewer_session.specs.Viewer.{Setup}
 
 -- How answers may be written whose bytes are chosen: in ZRLE, too.
-abbrev pub zrle_style_of : Runs → List Entry → ZrleStyle
+abbrev pub zrle_style_of : RectForm → List Entry → ZrleStyle
 zrle_style_of form entries = record { plain = style_of form entries; may_zrle = true }
 
 -- A session may choose the bytes of its answer at a cut of these updates. Viewers may be answered in ZRLE, and this one

@@ -6,7 +6,7 @@ use Rattle.byte_reading.specs.Reading.{Reading, Done, whole_of, fault_of, wants_
 use Rattle.raster.specs.declared.rect.Rect.{Rect}
 use Rattle.raster.specs.declared.size.Size.{Size}
 use Rattle.raster.specs.Size.{IsScreenSize}
-use Rattle.joined_runs.specs.declared.runs.Runs.{Runs}
+use Rattle.joined_runs.specs.declared.rect_form.RectForm.{RectForm}
 use Rattle.raster.specs.Update.{Update, bells}
 use Rattle.rfb_wire.specs.declared.client_reader.ClientReader.{ClientReader}
 use Rattle.rfb_wire.specs.ClientReader.{ahead}
@@ -39,7 +39,7 @@ use Rattle.viewer_session.specs.Viewer.{Setup, Viewer, out_bytes, new_viewer, wi
 pub record State : Type 0 where
   pub width : ℕ
   pub height : ℕ
-  pub runs : Runs
+  pub runs : RectForm
   pub host : Option Size
   pub zrle : Bool
   pub role : Role

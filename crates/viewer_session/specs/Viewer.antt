@@ -4,7 +4,7 @@ use Rattle.fault.specs.declared.kinds.Fault.{Fault}
 use Rattle.byte_reading.specs.Reading.{Reading, Done, Faulty, Want, step, fault_of, whole_of, wants_more}
 use Rattle.raster.specs.declared.size.Size.{Size}
 use Rattle.raster.specs.Update.{Update}
-use Rattle.joined_runs.specs.declared.runs.Runs.{Runs}
+use Rattle.joined_runs.specs.declared.rect_form.RectForm.{RectForm}
 use Rattle.rfb_wire.specs.ClientMessage.{ClientMessage, CutText, client_message, without_text}
 use Rattle.rfb_wire.specs.Handshake.{viewer_hello, said_to_viewer}
 use Rattle.roles.specs.declared.role.Role.{Role}
@@ -22,7 +22,7 @@ pub record Setup : Type 0 where
   pub h : ℕ
   pub name : List ℕ
   pub room : ℕ
-  pub runs : Runs
+  pub runs : RectForm
   pub host : Option Size
   pub zrle : Bool
 

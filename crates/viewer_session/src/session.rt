@@ -19,7 +19,7 @@ use crate::compressor::Compressor;
 use crate::form::AnswerForm;
 use crate::outgoing::Outgoing;
 use fault::Fault;
-use joined_runs::Runs;
+use joined_runs::RectForm;
 use painter::Wanted;
 use pixel_format::Format;
 use raster::{Encoding, Size};
@@ -43,7 +43,7 @@ use tiles::Have;
 pub struct Session {
     width: u64,
     height: u64,
-    runs: Runs,
+    runs: RectForm,
     // The size of the host's screen at first, where the viewer is told of sizes.
     host: Option<Size>,
     // Whether the viewer may be answered in ZRLE.
@@ -319,7 +319,7 @@ impl Session {
     /// clause speaks of it.
     pub fn wants(&self) -> Wanted {
         let in_zrle = self.zrle && self.choice.zrle;
-        let uses_forms = self.runs == Runs::Joined
+        let uses_forms = self.runs == RectForm::Joined
             && self.choice.kind == Encoding::Hextile
             && !in_zrle
             && self.format.keeps_apart();

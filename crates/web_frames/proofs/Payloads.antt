@@ -5,7 +5,7 @@ use lib.Bits.{xor_assoc, xor_self, xor_zero_r}
 use Rattle.websocket.specs.Mask.{mask_from}
 use Rattle.websocket.proofs.DecodeLemmas.{eqb_false, ltb_true}
 use Rattle.web_frames.specs.declared.position.Position.TheVariants.{Head, Payload, Ended}
-use Rattle.web_frames.specs.declared.position.Kind.TheVariants.{Data, Ping, Pong, Close}
+use Rattle.web_frames.specs.declared.position.FrameKind.TheVariants.{Data, Ping, Pong, Close}
 use Rattle.web_frames.specs.Frames.{Standing, at_end, after_byte, after_bytes, data_in}
 
 -- In a payload of data.

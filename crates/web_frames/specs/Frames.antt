@@ -10,8 +10,8 @@ use Rattle.websocket.specs.declared.protocol.frame.coding.Data.TheVariants as ki
 use Rattle.websocket.specs.Connection.{whole_header}
 use Rattle.web_frames.specs.declared.position.Position.{Position}
 use Rattle.web_frames.specs.declared.position.Position.TheVariants.{Head, Payload, Ended, Broken}
-use Rattle.web_frames.specs.declared.position.Kind.{Kind}
-use Rattle.web_frames.specs.declared.position.Kind.TheVariants.{Data, Ping, Pong, Close}
+use Rattle.web_frames.specs.declared.position.FrameKind.{FrameKind}
+use Rattle.web_frames.specs.declared.position.FrameKind.TheVariants.{Data, Ping, Pong, Close}
 use Rattle.web_frames.specs.declared.position.Breach.{Breach}
 use Rattle.web_frames.specs.declared.position.Breach.TheVariants.{Protocol, Text}
 
@@ -66,11 +66,11 @@ key_of None = 0 ∷ 0 ∷ 0 ∷ 0 ∷ []
 key_of (Some key) = key
 
 -- A payload of this kind and size follows the header. `begun` says whether a message is begun after it.
-abbrev pub before_payload : Standing → Kind → Bool → FrameHeader → ℕ → Standing
+abbrev pub before_payload : Standing → FrameKind → Bool → FrameHeader → ℕ → Standing
 before_payload s kind begun h size =
     at_end (record s { position = Payload kind; head = []; begun = begun; key = key_of h.mask; turn = 0; left = size; control = [] })
 
-abbrev pub kind_of : Control → Kind
+abbrev pub kind_of : Control → FrameKind
 kind_of control.Close = Close
 kind_of control.Ping = Ping
 kind_of control.Pong = Pong

@@ -11,6 +11,6 @@ mod reader;
 mod write;
 
 pub use law::{all_frames_are_read, nothing_is_read_after_a_breach, nothing_is_read_after_a_close};
-pub use position::{Breach, Kind, Position};
+pub use position::{Breach, FrameKind, Position};
 pub use reader::{FrameReader, MOST_CONTROL};
 pub use write::{MOST_FRAME, binary_head, control_frame};

@@ -8,7 +8,7 @@ use Rattle.web_frames.specs.Frames.{IsBetween, Standing, fresh, after_bytes, dat
 use Rattle.web_frames.specs.declared.position.Breach.{Breach}
 use Rattle.web_frames.specs.declared.position.Breach.TheVariants.{Protocol, Text}
 use Rattle.web_frames.specs.declared.position.Position.TheVariants.{Head, Payload, Ended}
-use Rattle.web_frames.specs.declared.position.Kind.TheVariants.{Data}
+use Rattle.web_frames.specs.declared.position.FrameKind.TheVariants.{Data}
 use Rattle.web_link.specs.declared.saying.Saying.{Saying}
 use Rattle.web_link.specs.declared.saying.Saying.TheVariants.{Between, Inside, Closed}
 

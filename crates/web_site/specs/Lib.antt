@@ -1,5 +1,5 @@
 pub mod Listed
-pub mod Kinds
+pub mod MediaTypes
 pub mod Admissions
 pub mod Openings
 pub mod Tables

@@ -9,12 +9,12 @@ use Rattle.http1.specs.Fields.{Header}
 use Rattle.http_server.specs.Response.{IsResponse}
 use Rattle.http_server.specs.declared.response.Response.{Response}
 use Rattle.websocket.specs.Handshake.{accept_key_of}
-use Rattle.web_site.specs.declared.kind.Kind.TheVariants.{Html}
+use Rattle.web_site.specs.declared.media_type.MediaType.TheVariants.{Html}
 use Rattle.web_site.specs.declared.table.WebFile.{WebFile}
 use Rattle.web_site.specs.declared.landing.Landing.{Landing}
 use Rattle.web_site.specs.declared.landing.Landing.TheVariants.{Page, There}
 use Rattle.web_site.specs.declared.site.Site.{Site}
-use Rattle.web_site.specs.Kinds.{content_type}
+use Rattle.web_site.specs.MediaTypes.{content_type}
 use Rattle.web_site.specs.Tables.{file_at}
 use Rattle.web_site.specs.Admissions.{Fields, may_open}
 use Rattle.web_site.specs.Openings.{Opens, asks_websocket, key_in, names}
@@ -43,7 +43,7 @@ Replies policy reply r = IsResponse reply.status (guards policy ++ reply.own) re
 -- A file, or 404 where there is none.
 abbrev pub file_reply : Option WebFile → Reply
 file_reply None = bare 404
-file_reply (Some f) = record { status = 200; own = (codes "content-type", content_type f.kind) ∷ []; body = f.body }
+file_reply (Some f) = record { status = 200; own = (codes "content-type", content_type f.media_type) ∷ []; body = f.body }
 
 -- What `/` is answered with.
 abbrev pub landing_reply : Landing → Reply

@@ -7,8 +7,8 @@
 mod admission;
 mod fields;
 mod guest;
-mod kind;
 mod landing;
+mod media_type;
 mod objection;
 mod opening;
 mod policy;
@@ -18,8 +18,8 @@ mod walk;
 
 pub use admission::Admission;
 pub use guest::{Guest, MOST_HEAD};
-pub use kind::Kind;
 pub use landing::{Landing, start_for};
+pub use media_type::MediaType;
 pub use objection::Objection;
 pub use opening::check_opening;
 pub use site::Site;

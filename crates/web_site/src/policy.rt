@@ -4,7 +4,7 @@ ghost use Rattle.std.specs.Prelude.{◌≡◌, ◌++◌, IfOk, OnOk, map};
 ghost use Rattle.std.specs.String.{string_bytes};
 ghost use Rattle.web_site.specs.Policies.{hash_of, policy_of, source};
 
-use crate::kind::Kind;
+use crate::media_type::MediaType;
 use crate::table::WebFile;
 use base64::engine::general_purpose::STANDARD;
 use memchr::memmem;
@@ -79,7 +79,7 @@ fn add_hashes(alloc: Global, page: &[u8], hashes: &mut Vec<String>) -> Result<()
 pub(crate) fn hashes_in(alloc: Global, files: &[WebFile]) -> Result<Vec<String>, AllocError> {
     let mut hashes = Vec::new(alloc);
     for file in files {
-        if file.kind == Kind::Html {
+        if file.media_type == MediaType::Html {
             add_hashes(alloc, file.body.as_slice(), &mut hashes)?;
         }
     }

@@ -2,7 +2,7 @@
 
 ghost use Rattle.std.specs.Prelude.{◌≡◌};
 
-use crate::kind::Kind;
+use crate::media_type::MediaType;
 use crate::walk::{Found, Step};
 use bytes::Bytes;
 use std::alloc::{AllocError, Global};
@@ -19,8 +19,8 @@ pub const MOST_BYTES: usize = 16_777_216;
 pub struct WebFile {
     /// Its path in a request, from the slash on.
     pub path: String,
-    /// The kind of the file, by which its Content-Type is chosen.
-    pub kind: Kind,
+    /// The media type of the file, by which its Content-Type is chosen.
+    pub media_type: MediaType,
     /// The bytes of the file.
     pub body: Bytes,
 }
@@ -67,7 +67,7 @@ impl Model for FileTable {
 impl FileTable {
     ghost use Rattle.std.specs.Prelude.{◌≡◌, ◌+◌, ◌<◌, ◌≤◌, ◌⊎◌, [], ◌∷◌, ◌++◌, length, None, Some, IfErr, OnOk, OnErr, option_copied, string_bytes};
     ghost use Rattle.web_site.specs.declared.table.TableFault.TheVariants.{Memory};
-    ghost use Rattle.web_site.specs.Kinds.{kind_by_name};
+    ghost use Rattle.web_site.specs.MediaTypes.{media_type_by_name};
     ghost use Rattle.web_site.specs.Tables.{file_at, total, refusal, IsAdded, met};
 
     /// A table without a file.
@@ -97,10 +97,10 @@ impl FileTable {
     }
 
     /// Why a file of this name and size doesn't go in, or `None` where it does.
-    fn refusal(&self, kind: Option<Kind>, size: usize) -> Option<TableFault>
-        ensures { result ≡ refusal self.now kind size }
+    fn refusal(&self, media_type: Option<MediaType>, size: usize) -> Option<TableFault>
+        ensures { result ≡ refusal self.now media_type size }
     {
-        if kind.is_none() {
+        if media_type.is_none() {
             Some(TableFault::OtherEnding)
         } else if self.files.len() >= MOST_FILES {
             Some(TableFault::TooManyFiles)
@@ -116,18 +116,22 @@ impl FileTable {
         ensures added { OnOk result (IsAdded self.old self.new path body) }
         ensures kept { OnErr result (self.new ≡ self.old) }
         ensures why { IfErr result (λ fault.
-            (refusal self.old (kind_by_name (string_bytes path)) (length body) ≡ Some fault)
+            (refusal self.old (media_type_by_name (string_bytes path)) (length body) ≡ Some fault)
             ⊎ (fault ≡ Memory)) }
         ensures refused { OnOk result
-            (refusal self.old (kind_by_name (string_bytes path)) (length body) ≡ None) }
+            (refusal self.old (media_type_by_name (string_bytes path)) (length body) ≡ None) }
     {
-        let Some(kind) = Kind::of(path.as_str()) else {
+        let Some(media_type) = MediaType::of(path.as_str()) else {
             return Err(TableFault::OtherEnding);
         };
-        if let Some(fault) = self.refusal(Some(kind), body.len()) {
+        if let Some(fault) = self.refusal(Some(media_type), body.len()) {
             return Err(fault);
         }
-        match self.put(WebFile { path, kind, body }) {
+        match self.put(WebFile {
+            path,
+            media_type,
+            body,
+        }) {
             Ok(()) => Ok(()),
             Err(_) => Err(TableFault::Memory),
         }
@@ -155,7 +159,7 @@ impl FileTable {
             Found::Other => return Ok(Step::Pass),
             Found::File(size) => size,
         };
-        match self.refusal(Kind::of(name), size) {
+        match self.refusal(MediaType::of(name), size) {
             None => Ok(Step::Read),
             Some(TableFault::OtherEnding) => Ok(Step::Pass),
             Some(fault) => Err(fault),

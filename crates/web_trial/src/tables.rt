@@ -46,11 +46,11 @@ fn add_often(rt: &HostRuntime, table: &mut FileTable, thing: Thing<'_>) -> Resul
     Ok(())
 }
 
-/// Prints the kind and the bytes of a file that was looked for.
+/// Prints the media type and the bytes of a file that was looked for.
 fn print_found(rt: &HostRuntime, file: Option<&WebFile>) -> Result<(), Fail> {
     match file {
         Some(file) => {
-            print!(rt; " {:?}=", file.kind)?;
+            print!(rt; " {:?}=", file.media_type)?;
             print_bytes(rt, file.body.as_slice())
         }
         None => Ok(print!(rt; " none")?),

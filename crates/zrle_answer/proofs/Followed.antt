@@ -12,8 +12,8 @@ use Rattle.raster.specs.Screen.{Map, Canvas, holds, part_of, values_of}
 use Rattle.raster.specs.Update.{Paint, Put, Copy}
 use Rattle.raster.proofs.Places.{Has, has_holds}
 use Rattle.raster.proofs.Spellings.{Each}
-use Rattle.joined_runs.specs.declared.runs.Runs.{Runs}
-use Rattle.joined_runs.specs.declared.runs.Runs.TheVariants.{OfRows}
+use Rattle.joined_runs.specs.declared.rect_form.RectForm.{RectForm}
+use Rattle.joined_runs.specs.declared.rect_form.RectForm.TheVariants.{OfRows}
 use Rattle.joined_runs.specs.Joined.{form_of, saves_bytes_as}
 use Rattle.joined_runs.proofs.Spelled.{form_is_read}
 use Rattle.rfb_wire.specs.ServerMessage.{rectangle}
@@ -49,7 +49,7 @@ and_right : (a b : Bool) → (a && b) ≡ true → b ≡ true
 and_right true b e = e
 and_right false b e = absurd cc
 
-put_is_read : (runs : Runs) (encoding : Encoding) (format : PixelFormat) (canvas : Canvas) (r : Rect) (w h : ℕ) → IsAccepted format → w ≤ 4096 → h ≤ 4096 → IsPart w h r
+put_is_read : (runs : RectForm) (encoding : Encoding) (format : PixelFormat) (canvas : Canvas) (r : Rect) (w h : ℕ) → IsAccepted format → w ≤ 4096 → h ≤ 4096 → IsPart w h r
     → Spells (rectangle format w h) (rectangle_bytes r (encoding_number encoding) (form_of runs encoding format r.w r.h (pixels_in format canvas r))) (Put r (pixels_in format canvas r))
 put_is_read runs encoding format canvas r w h ok lw lh part =
     let values : List ℕ = pixels_in format canvas r in
@@ -60,7 +60,7 @@ repeat_is_read : (format : PixelFormat) (canvas : Canvas) (above r : Rect) (w h 
 repeat_is_read format canvas above r w h lw lh there part e =
     copy_is_read format w h r above.x above.y (omega arith) (omega arith) part.inside (record { across = omega (arith, there.inside.across, e.w); down = omega (arith, there.inside.down, e.h) })
 
-chosen_is_read : (runs : Runs) (encoding : Encoding) (saves : Bool) (format : PixelFormat) (canvas : Canvas) (r : Rect) (w h : ℕ) → IsAccepted format → w ≤ 4096 → h ≤ 4096 → IsPart w h r
+chosen_is_read : (runs : RectForm) (encoding : Encoding) (saves : Bool) (format : PixelFormat) (canvas : Canvas) (r : Rect) (w h : ℕ) → IsAccepted format → w ≤ 4096 → h ≤ 4096 → IsPart w h r
     → Spells (rectangle format w h) (cond saves (rectangle_bytes r (encoding_number encoding) (form_of runs encoding format r.w r.h (pixels_in format canvas r))) (rectangle_bytes r 0 (form Raw format r.w r.h (pixels_in format canvas r)))) (Put r (pixels_in format canvas r))
 chosen_is_read runs encoding true format canvas r w h ok lw lh part = put_is_read runs encoding format canvas r w h ok lw lh part
 chosen_is_read runs encoding false format canvas r w h ok lw lh part = put_is_read OfRows Raw format canvas r w h ok lw lh part

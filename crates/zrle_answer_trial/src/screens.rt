@@ -6,7 +6,7 @@ ghost use Rattle.raster.specs.Size.{IsScreenSize};
 use crate::cases::{SCREEN_SIDE, rect_of};
 use crate::sharing::{expect_the_same, shared_cut_of};
 use crate::words::{format_of, numbers_of, parted};
-use joined_runs::Runs;
+use joined_runs::RectForm;
 use painter::{Board, Painter};
 use raster::{Encoding, Rect};
 use reflect_core::Cut;
@@ -69,7 +69,7 @@ fn mark(cut: &mut Cut, word: &str) -> Result<(), Fail>
 /// The style of a format: Hextile of joined runs, and CopyRect.
 fn style_of(alloc: Global, word: &str) -> Result<Style, Fail> {
     Ok(Style {
-        runs: Runs::Joined,
+        runs: RectForm::Joined,
         format: format_of(alloc, word)?,
         choice: Choice {
             kind: Encoding::Hextile,

@@ -4,7 +4,7 @@ ghost use Rattle.std.specs.Prelude.{◌≡◌, ◌+◌, ◌*◌, ◌≤◌, leng
 ghost use Rattle.raster.specs.Size.{IsScreenSize};
 
 use fault::Fault;
-use joined_runs::Runs;
+use joined_runs::RectForm;
 use painter::{Board, Painter};
 use pixel_format::Format;
 use raster::{Encoding, Rect};
@@ -171,7 +171,11 @@ pub extern "C" fn bench_answers(
         return 0;
     };
     let style = Style {
-        runs: if joined { Runs::Joined } else { Runs::OfRows },
+        runs: if joined {
+            RectForm::Joined
+        } else {
+            RectForm::OfRows
+        },
         format,
         choice: Choice {
             kind: Encoding::of_number(kind).unwrap_or(Encoding::Raw),

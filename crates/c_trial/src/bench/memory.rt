@@ -3,7 +3,7 @@
 ghost use Rattle.std.specs.Prelude.{◌≡◌, ◌≤◌, true};
 
 use fault::Fault;
-use joined_runs::Runs;
+use joined_runs::RectForm;
 use reflect_core::PlainScreen;
 use roles::Role;
 use std::alloc::Global;
@@ -11,7 +11,7 @@ use viewer_session::{AnswerForm, Session};
 
 /// The form in which viewers are answered.
 const JOINED: AnswerForm = AnswerForm {
-    runs: Runs::Joined,
+    runs: RectForm::Joined,
     zrle: false,
 };
 

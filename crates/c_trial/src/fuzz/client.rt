@@ -1,48 +1,48 @@
 //! What a viewer sends.
 
 use crate::fuzz::pieces::Pieces;
-use crate::fuzz::report::Report;
+use crate::fuzz::transcript::Transcript;
 use fault::Fault;
 use rfb_wire::{ClientMessage, ClientReader};
 use std::alloc::Global;
 
 /// Writes down a message.
-fn write_message(message: ClientMessage, report: &mut Report<'_>) {
+fn write_message(message: ClientMessage, transcript: &mut Transcript<'_>) {
     match message {
         ClientMessage::Format(format) => {
             let mut bytes = [0; 16];
             format.write(&mut bytes);
-            report.byte(0);
-            report.bytes(&bytes);
+            transcript.byte(0);
+            transcript.bytes(&bytes);
         }
         ClientMessage::Encodings(choice) => {
             let kind = choice.kind.number() as u8;
-            report.bytes(&[2, kind, u8::from(choice.copy), u8::from(choice.resizes)]);
+            transcript.bytes(&[2, kind, u8::from(choice.copy), u8::from(choice.resizes)]);
         }
         ClientMessage::Ask { incremental, rect } => {
-            report.bytes(&[3, u8::from(incremental)]);
-            report.number(rect.x);
-            report.number(rect.y);
-            report.number(rect.w);
-            report.number(rect.h);
+            transcript.bytes(&[3, u8::from(incremental)]);
+            transcript.number(rect.x);
+            transcript.number(rect.y);
+            transcript.number(rect.w);
+            transcript.number(rect.h);
         }
         ClientMessage::Key { down, key } => {
-            report.bytes(&[4, u8::from(down)]);
-            report.number(u64::from(key));
+            transcript.bytes(&[4, u8::from(down)]);
+            transcript.number(u64::from(key));
         }
         ClientMessage::Pointer { mask, x, y } => {
-            report.bytes(&[5, mask]);
-            report.number(u64::from(x));
-            report.number(u64::from(y));
+            transcript.bytes(&[5, mask]);
+            transcript.number(u64::from(x));
+            transcript.number(u64::from(y));
         }
         ClientMessage::Cut(text) => {
-            report.byte(6);
-            report.number(text.as_slice().len() as u64);
-            report.bytes(text.as_slice());
+            transcript.byte(6);
+            transcript.number(text.as_slice().len() as u64);
+            transcript.bytes(text.as_slice());
         }
         ClientMessage::CutLost(length) => {
-            report.byte(7);
-            report.number(u64::from(length));
+            transcript.byte(7);
+            transcript.number(u64::from(length));
         }
     }
 }
@@ -51,7 +51,7 @@ fn write_message(message: ClientMessage, report: &mut Report<'_>) {
 fn read_piece(
     reader: &mut ClientReader,
     piece: &[u8],
-    report: &mut Report<'_>,
+    transcript: &mut Transcript<'_>,
 ) -> Result<usize, Fault> {
     let mut left = piece;
     for _ in 0..=piece.len() {
@@ -59,7 +59,7 @@ fn read_piece(
         let (_, rest) = left.split_at(used.min(left.len()));
         left = rest;
         match reader.take() {
-            Some(message) => write_message(message, report),
+            Some(message) => write_message(message, transcript),
             None => break,
         }
     }
@@ -74,7 +74,7 @@ pub extern "C" fn fuzz_client(
     lengths: &[u8],
     out: &mut [u8],
 ) -> usize {
-    let mut report = Report::new(out);
+    let mut transcript = Transcript::new(out);
     let mut pieces = Pieces::new(bytes, lengths);
     let mut reader = ClientReader::new(alloc);
     let mut used: usize = 0;
@@ -83,12 +83,12 @@ pub extern "C" fn fuzz_client(
         let Some(piece) = pieces.next() else {
             break;
         };
-        match read_piece(&mut reader, piece, &mut report) {
+        match read_piece(&mut reader, piece, &mut transcript) {
             Ok(count) => used = used.saturating_add(count),
             Err(found) => fault = Some(found),
         }
     }
-    report.end(fault, used);
-    report.byte(u8::from(reader.is_between()));
-    report.len()
+    transcript.end(fault, used);
+    transcript.byte(u8::from(reader.is_between()));
+    transcript.len()
 }

@@ -3,7 +3,7 @@
 ghost use Rattle.std.specs.Prelude.{◌≤◌};
 
 use crate::fuzz::pieces::Pieces;
-use crate::fuzz::report::Report;
+use crate::fuzz::transcript::Transcript;
 use pixel_format::Format;
 use raster::{CodecReader, Raster, read_piece};
 use std::alloc::Global;
@@ -27,7 +27,7 @@ fn read<R: CodecReader + Drop>(
     format: Format,
     bytes: &[u8],
     lengths: &[u8],
-    report: &mut Report<'_>,
+    transcript: &mut Transcript<'_>,
 )
     requires across { raster.old.width ≤ 4096 }
     requires down { raster.old.height ≤ 4096 }
@@ -45,8 +45,8 @@ fn read<R: CodecReader + Drop>(
             Err(found) => fault = Some(found),
         }
     }
-    report.end(fault, used);
-    report.byte(u8::from(reader.whole()));
+    transcript.end(fault, used);
+    transcript.byte(u8::from(reader.whole()));
 }
 
 /// Reads a rectangle of `width` by `height` in a pixel format: its end, whether it is whole, and what is drawn.
@@ -62,7 +62,7 @@ pub extern "C" fn fuzz_rectangle(
     lengths: &[u8],
     out: &mut [u8],
 ) -> usize {
-    let mut report = Report::new(out);
+    let mut transcript = Transcript::new(out);
     let Some(format) = format_of(format) else {
         return 0;
     };
@@ -73,18 +73,18 @@ pub extern "C" fn fuzz_rectangle(
         return 0;
     };
     if encoding == HEXTILE {
-        read::<hextile_codec::Reader>(&mut raster, format, bytes, lengths, &mut report);
+        read::<hextile_codec::Reader>(&mut raster, format, bytes, lengths, &mut transcript);
     } else {
-        read::<rre_codec::Reader>(&mut raster, format, bytes, lengths, &mut report);
+        read::<rre_codec::Reader>(&mut raster, format, bytes, lengths, &mut transcript);
     }
-    write_raster(&raster, &mut report);
-    report.len()
+    write_raster(&raster, &mut transcript);
+    transcript.len()
 }
 
-fn write_raster(raster: &Raster, report: &mut Report<'_>) {
+fn write_raster(raster: &Raster, transcript: &mut Transcript<'_>) {
     for y in 0..raster.height() {
         for value in raster.row(y) {
-            report.bytes(&value.to_be_bytes());
+            transcript.bytes(&value.to_be_bytes());
         }
     }
 }

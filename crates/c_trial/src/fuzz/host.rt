@@ -3,7 +3,7 @@
 ghost use Rattle.host_decoder.specs.Decoder.{IsFor};
 
 use crate::fuzz::pieces::Pieces;
-use crate::fuzz::report::Report;
+use crate::fuzz::transcript::Transcript;
 use fault::{Fault, LIMIT};
 use host_decoder::{HostEvent, HostScreen};
 use painter::{Board, Patch};
@@ -19,23 +19,23 @@ fn apply(board: &mut Board, patch: &Patch) -> bool {
 }
 
 /// Applies what a message brings, and writes it down.
-fn keep(event: HostEvent, board: &mut Board, report: &mut Report<'_>) {
+fn keep(event: HostEvent, board: &mut Board, transcript: &mut Transcript<'_>) {
     match event {
         HostEvent::Paint(patch) => {
-            report.bytes(&[0, u8::from(apply(board, &patch))]);
+            transcript.bytes(&[0, u8::from(apply(board, &patch))]);
         }
-        HostEvent::Map => report.byte(1),
+        HostEvent::Map => transcript.byte(1),
         HostEvent::Bell(patch) => {
-            report.bytes(&[2, u8::from(apply(board, &patch))]);
+            transcript.bytes(&[2, u8::from(apply(board, &patch))]);
         }
         HostEvent::Cut(patch) => {
-            report.bytes(&[3, u8::from(apply(board, &patch))]);
+            transcript.bytes(&[3, u8::from(apply(board, &patch))]);
             if let Some(text) = patch.text_bytes() {
-                report.number(text.len() as u64);
-                report.bytes(text);
+                transcript.number(text.len() as u64);
+                transcript.bytes(text);
             }
         }
-        HostEvent::LongCut => report.byte(4),
+        HostEvent::LongCut => transcript.byte(4),
     }
 }
 
@@ -44,7 +44,7 @@ fn read_piece(
     screen: &mut HostScreen,
     board: &mut Board,
     piece: &[u8],
-    report: &mut Report<'_>,
+    transcript: &mut Transcript<'_>,
 ) -> Result<usize, Fault>
     requires { IsFor screen.old.decoder screen.old.painter }
     ensures { IsFor screen.new.decoder screen.new.painter }
@@ -55,7 +55,7 @@ fn read_piece(
         let (_, rest) = left.split_at(used);
         left = rest;
         match screen.decoder.whole() {
-            Some(event) => keep(event, board, report),
+            Some(event) => keep(event, board, transcript),
             None => break,
         }
     }
@@ -68,7 +68,7 @@ fn read(
     board: &mut Board,
     bytes: &[u8],
     lengths: &[u8],
-    report: &mut Report<'_>,
+    transcript: &mut Transcript<'_>,
 )
     requires { IsFor screen.old.decoder screen.old.painter }
 {
@@ -79,20 +79,20 @@ fn read(
         let Some(piece) = pieces.next() else {
             break;
         };
-        match read_piece(screen, board, piece, report) {
+        match read_piece(screen, board, piece, transcript) {
             Ok(count) => used = used.saturating_add(count),
             Err(found) => fault = Some(found),
         }
     }
-    report.end(fault, used);
+    transcript.end(fault, used);
 }
 
 /// Writes down what a board shows.
-fn write_board(board: &Board, report: &mut Report<'_>) {
-    report.number(board.number());
-    report.number(board.bells());
+fn write_board(board: &Board, transcript: &mut Transcript<'_>) {
+    transcript.number(board.number());
+    transcript.number(board.bells());
     for colour in board.colours() {
-        report.bytes(&colour.to_be_bytes());
+        transcript.bytes(&colour.to_be_bytes());
     }
 }
 
@@ -111,14 +111,14 @@ pub extern "C" fn fuzz_host(
         return 0;
     }
     let (w, h) = (u64::from(width), u64::from(height));
-    let mut report = Report::new(out);
+    let mut transcript = Transcript::new(out);
     let Ok(mut screen) = HostScreen::new(alloc, w, h) else {
         return 0;
     };
     let Ok(mut board) = Board::new(alloc, w, h) else {
         return 0;
     };
-    read(&mut screen, &mut board, bytes, lengths, &mut report);
-    write_board(&board, &mut report);
-    report.len()
+    read(&mut screen, &mut board, bytes, lengths, &mut transcript);
+    write_board(&board, &mut transcript);
+    transcript.len()
 }

@@ -2,7 +2,7 @@ use Rattle.std.proofs.Common.{ℕ, ◌+◌, ◌<◌, ◌∷◌, [], length, leng
 use Rattle.raster.specs.declared.rect.Rect.{Rect}
 use Rattle.raster.specs.Screen.{Canvas, part_of, tile_count}
 use Rattle.raster.specs.Encoding.{Carried}
-use Rattle.joined_runs.specs.declared.runs.Runs.TheVariants.{OfRows, Joined}
+use Rattle.joined_runs.specs.declared.rect_form.RectForm.TheVariants.{OfRows, Joined}
 use Rattle.hextile_codec.specs.Carried.{carried_by}
 use Rattle.hextile_codec.specs.Chosen.{IsChosenBy}
 use Rattle.hextile_codec.specs.Sources.{shows}

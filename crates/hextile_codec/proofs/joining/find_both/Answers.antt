@@ -4,7 +4,7 @@ use Rattle.raster.specs.declared.rect.Rect.{Rect}
 use Rattle.raster.specs.Screen.{Canvas, value_at, part_of}
 use Rattle.raster.proofs.AreaRows.{tile_first}
 use Rattle.joined_runs.specs.Joined.{runs_over}
-use Rattle.hextile_codec.specs.Kinds.{subrect_of}
+use Rattle.hextile_codec.specs.TileKinds.{subrect_of}
 use Rattle.hextile_codec.proofs.PlainTile.{plain_found}
 use Rattle.hextile_codec.proofs.joining.find_both.Goals as goal
 

@@ -5,8 +5,8 @@ use Rattle.raster.specs.declared.rect.Rect.{Rect}
 use Rattle.raster.specs.Screen.{Canvas, value_at, part_of}
 use Rattle.raster.specs.Encoding.{Subrect}
 use Rattle.raster.proofs.AreaRows.{tile_first}
-use Rattle.joined_runs.specs.declared.runs.Runs.TheVariants.{OfRows}
-use Rattle.hextile_codec.specs.Kinds.{HasMany, IsFoundAs, subrect_of}
+use Rattle.joined_runs.specs.declared.rect_form.RectForm.TheVariants.{OfRows}
+use Rattle.hextile_codec.specs.TileKinds.{HasMany, IsFoundAs, subrect_of}
 use Rattle.hextile_codec.proofs.joining.find_rows.Goals as goal
 
 by_answer : (b : Bool) (v : ℕ) (N : Type 0) (S : ℕ → Type 0) → (b ≡ false → N) → (b ≡ true → S v) → MatchOption (then_some b v) N S

@@ -3,11 +3,11 @@ use Rattle.std.specs.Prelude.{MatchOption}
 use Rattle.std.proofs.lemmas.List.{append-nil, map-append}
 use Rattle.raster.specs.Screen.{Canvas, value_at, part_of}
 use Rattle.raster.specs.Encoding.{Subrect}
-use Rattle.joined_runs.specs.declared.runs.Runs.TheVariants.{Joined}
+use Rattle.joined_runs.specs.declared.rect_form.RectForm.TheVariants.{Joined}
 use Rattle.joined_runs.specs.Joined.{written}
 use Rattle.joined_runs.specs.Found as whole
 use Rattle.hextile_codec.specs.declared.runs.Run.{Run}
-use Rattle.hextile_codec.specs.Kinds.{IsRowRun, subrect_of}
+use Rattle.hextile_codec.specs.TileKinds.{IsRowRun, subrect_of}
 use Rattle.hextile_codec.proofs.JoinedFound.{same_run, same_high, join_more}
 use Rattle.hextile_codec.proofs.joining.join.Goals as goal
 use Rattle.hextile_codec.proofs.joining.join.Goals.{in-Some, in_default}

@@ -1,8 +1,8 @@
 use Rattle.std.proofs.Common.{◌≡◌, ◌≤◌, length, map, take}
 use Rattle.raster.specs.Screen.{value_at, part_of}
-use Rattle.joined_runs.specs.declared.runs.Runs.TheVariants.{Joined}
+use Rattle.joined_runs.specs.declared.rect_form.RectForm.TheVariants.{Joined}
 use Rattle.joined_runs.specs.Joined.{written}
-use Rattle.hextile_codec.specs.Kinds.{subrect_of}
+use Rattle.hextile_codec.specs.TileKinds.{subrect_of}
 use Rattle.hextile_codec.proofs.joining.join.Given as goal
 
 abbrev pub invariant-loop-run : goal.invariant-loop-run

@@ -2,10 +2,10 @@ use Rattle.std.proofs.Common.{◌≡◌, ◌∙◌, List, length, map, sym, ap}
 use Rattle.std.proofs.lemmas.List.{length-map}
 use Rattle.raster.specs.declared.rect.Rect.{Rect}
 use Rattle.raster.specs.Screen.{Canvas, value_at, part_of}
-use Rattle.joined_runs.specs.declared.runs.Runs.TheVariants.{Joined}
+use Rattle.joined_runs.specs.declared.rect_form.RectForm.TheVariants.{Joined}
 use Rattle.joined_runs.specs.Joined.{joined_runs, runs_over, written}
 use Rattle.hextile_codec.specs.declared.runs.Run.{Run}
-use Rattle.hextile_codec.specs.Kinds.{subrect_of}
+use Rattle.hextile_codec.specs.TileKinds.{subrect_of}
 use Rattle.hextile_codec.proofs.JoinedFound.{row_runs}
 use Rattle.hextile_codec.proofs.joining.search_part.Goals as goal
 

@@ -5,7 +5,7 @@ use Rattle.std.proofs.lemmas.List.{append-nil}
 use Rattle.std.proofs.Math.Nat.{mod-lt}
 use Rattle.raster.specs.Screen.{Canvas, value_at, part_of}
 use Rattle.joined_runs.specs.Joined.{is_below}
-use Rattle.hextile_codec.specs.Kinds.{subrect_of}
+use Rattle.hextile_codec.specs.TileKinds.{subrect_of}
 use Rattle.hextile_codec.specs.declared.marking.Marks.{Marks}
 use Rattle.hextile_codec.specs.declared.runs.Run.{Run}
 use Rattle.hextile_codec.proofs.Heads.{all_heads, all_heads_behind, head_listed, heads_at, joined_at}

@@ -1,9 +1,9 @@
 use Rattle.std.proofs.Common.{◌≡◌, ◌∙◌, ◌++◌, ℕ, List, [], map, refl, sym, ap, append_assoc}
 use Rattle.raster.specs.Screen.{Canvas, value_at, part_of}
 use Rattle.raster.specs.Encoding.{Subrect}
-use Rattle.joined_runs.specs.declared.runs.Runs.TheVariants.{Joined}
+use Rattle.joined_runs.specs.declared.rect_form.RectForm.TheVariants.{Joined}
 use Rattle.joined_runs.specs.Joined.{written}
-use Rattle.hextile_codec.specs.Kinds.{subrect_of}
+use Rattle.hextile_codec.specs.TileKinds.{subrect_of}
 use Rattle.hextile_codec.specs.Marks.{runs_of_rows}
 use Rattle.hextile_codec.proofs.FourWords.{joined_fours}
 use Rattle.hextile_codec.proofs.listing.list_joined.Goals as goal

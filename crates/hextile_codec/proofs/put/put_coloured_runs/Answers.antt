@@ -6,7 +6,7 @@ use Rattle.pixel_format.specs.PixelFormat.{pixel_len, pixel_bytes}
 use Rattle.pixel_format.proofs.Pixels.{pixel_size}
 use Rattle.raster.specs.Encoding.{Subrect, place_bytes, coloured_bytes}
 use Rattle.hextile_codec.specs.declared.runs.Run.{Run}
-use Rattle.hextile_codec.specs.Kinds.{subrect_of}
+use Rattle.hextile_codec.specs.TileKinds.{subrect_of}
 use Rattle.raster.proofs.Puts.{two_parts}
 use Rattle.hextile_codec.proofs.put.put_coloured_runs.Goals as goal
 use borrow.Rule.Slice.PartMut.{put_mid}

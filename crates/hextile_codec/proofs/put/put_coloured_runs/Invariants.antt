@@ -2,7 +2,7 @@ use Rattle.std.proofs.Common.{◌≡◌, ◌+◌, ◌*◌, ◌++◌, map, take}
 use Rattle.std.specs.List.{flat_map}
 use Rattle.pixel_format.specs.PixelFormat.{pixel_len}
 use Rattle.raster.specs.Encoding.{coloured_bytes}
-use Rattle.hextile_codec.specs.Kinds.{subrect_of}
+use Rattle.hextile_codec.specs.TileKinds.{subrect_of}
 use Rattle.hextile_codec.proofs.put.put_coloured_runs.Given as goal
 
 abbrev pub invariant-loop-run : goal.invariant-loop-run

@@ -1,7 +1,7 @@
 use Rattle.std.proofs.Common.{◌≡◌, ◌+◌, ◌*◌, ◌++◌, map, take}
 use Rattle.std.specs.List.{flat_map}
 use Rattle.raster.specs.Encoding.{place_bytes}
-use Rattle.hextile_codec.specs.Kinds.{subrect_of}
+use Rattle.hextile_codec.specs.TileKinds.{subrect_of}
 use Rattle.hextile_codec.proofs.put.put_places.Given as goal
 
 abbrev pub invariant-loop-run : goal.invariant-loop-run

@@ -3,7 +3,7 @@ use Rattle.std.specs.Int.{trailing_zeros}
 use Rattle.std.proofs.lemmas.List.{append-nil}
 use Rattle.std.proofs.Math.Nat.{mod-lt}
 use Rattle.raster.specs.Screen.{Canvas, value_at, part_of}
-use Rattle.hextile_codec.specs.Kinds.{subrect_of}
+use Rattle.hextile_codec.specs.TileKinds.{subrect_of}
 use Rattle.hextile_codec.specs.declared.runs.Run.{Run}
 use Rattle.hextile_codec.proofs.LeftBits.{IsNext, next_one, one_cleared, fewer_left, none_listed}
 use Rattle.hextile_codec.proofs.MarkedRuns.{all_left, begins_at, run_at, run_ends, run_marked, all_behind}

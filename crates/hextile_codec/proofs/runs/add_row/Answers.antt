@@ -2,7 +2,7 @@ use Rattle.std.proofs.Common.{◌≡◌, ℕ, ◌+◌, ◌<◌, ◌∙◌, ◌++
 use Rattle.std.proofs.lemmas.List.{append-nil}
 use Rattle.raster.proofs.RowScan.{IsFresh}
 use Rattle.raster.specs.Encoding.{run_from}
-use Rattle.hextile_codec.specs.Kinds.{subrect_of}
+use Rattle.hextile_codec.specs.TileKinds.{subrect_of}
 use Rattle.raster.specs.RowShown.{row_shows}
 use Rattle.hextile_codec.specs.declared.runs.Run.{Run}
 use Rattle.hextile_codec.proofs.RowRuns.{background_alone, run_at, run_added, run_skipped, run_fits, fresh_next}

@@ -3,7 +3,7 @@ use Rattle.std.proofs.Math.Nat.{mul-le-mul_right}
 use Rattle.raster.specs.declared.rect.Rect.{Rect}
 use Rattle.raster.specs.Screen.{Canvas, value_at, part_of}
 use Rattle.hextile_codec.specs.declared.runs.Run.{Run}
-use Rattle.hextile_codec.specs.Kinds.{subrect_of, has_one_value}
+use Rattle.hextile_codec.specs.TileKinds.{subrect_of, has_one_value}
 use Rattle.hextile_codec.proofs.TileRuns.{AreAbove, all_above, row_above, above_mixed}
 use Rattle.hextile_codec.proofs.runs.find_by_rows.Goals as goal
 

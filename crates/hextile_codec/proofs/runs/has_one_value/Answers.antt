@@ -6,7 +6,7 @@ use Rattle.std.proofs.lemmas.Iterator.Search.{all_from_yields_List}
 use Rattle.std.proofs.lemmas.List.Folds.{list_all-map}
 use Rattle.raster.specs.Encoding.{Subrect}
 use Rattle.hextile_codec.specs.declared.runs.Run.{Run}
-use Rattle.hextile_codec.specs.Kinds.{subrect_of, has_one_value}
+use Rattle.hextile_codec.specs.TileKinds.{subrect_of, has_one_value}
 use Rattle.hextile_codec.proofs.runs.has_one_value.Goals as goal
 
 -- The runs after the first are compared with it.

@@ -1,7 +1,7 @@
 use Rattle.std.proofs.Common.{arith}
 use Rattle.raster.specs.declared.rect.Rect.{Rect}
 use Rattle.raster.specs.Screen.{Canvas, part_of}
-use Rattle.joined_runs.specs.declared.runs.Runs.TheVariants.{OfRows}
+use Rattle.joined_runs.specs.declared.rect_form.RectForm.TheVariants.{OfRows}
 use Rattle.hextile_codec.specs.Carried.{carried_by}
 use Rattle.hextile_codec.specs.Sources.{AreOfTile, shows}
 use Rattle.hextile_codec.proofs.Alike.{of_tile}

@@ -1,10 +1,10 @@
 use Rattle.std.proofs.Common.{◌≡◌, map, subst, sym, arith}
 use Rattle.raster.specs.declared.rect.Rect.{Rect}
 use Rattle.raster.specs.Screen.{Canvas, value_at, part_of}
-use Rattle.joined_runs.specs.declared.runs.Runs.TheVariants.{OfRows, Joined}
+use Rattle.joined_runs.specs.declared.rect_form.RectForm.TheVariants.{OfRows, Joined}
 use Rattle.joined_runs.specs.Joined.{subrects_of}
 use Rattle.hextile_codec.specs.Carried.{carried_by}
-use Rattle.hextile_codec.specs.Kinds.{IsChosen, subrect_of}
+use Rattle.hextile_codec.specs.TileKinds.{IsChosen, subrect_of}
 use Rattle.hextile_codec.specs.Sources.{AreOfTile, shows}
 use Rattle.hextile_codec.proofs.Alike.{chosen_alike, of_tile, subrects_alike}
 use Rattle.hextile_codec.proofs.KeptForms.{few_counts, if_none}

@@ -6,14 +6,14 @@ use Rattle.pixel_format.specs.PixelFormat.{PixelFormat, pixel_len}
 use Rattle.raster.specs.declared.rect.Rect.{Rect}
 use Rattle.raster.specs.Screen.{Canvas, part_of, value_at, values_of}
 use Rattle.raster.specs.Encoding.{Carried, Subrect, raw_bytes}
-use Rattle.joined_runs.specs.declared.runs.Runs.{Runs}
+use Rattle.joined_runs.specs.declared.rect_form.RectForm.{RectForm}
 use Rattle.joined_runs.specs.Joined.{tile_bytes_as}
 use Rattle.joined_runs.proofs.SameTiles.{few_subrects}
 use Rattle.hextile_codec.specs.declared.runs.Run.{Run}
-use Rattle.hextile_codec.specs.declared.kind.TileChoice.{TileChoice}
-use Rattle.hextile_codec.specs.declared.kind.Kind.TheVariants.{Raw}
+use Rattle.hextile_codec.specs.declared.tile_kind.TileChoice.{TileChoice}
+use Rattle.hextile_codec.specs.declared.tile_kind.TileKind.TheVariants.{Raw}
 use Rattle.hextile_codec.specs.Carried.{carried_by}
-use Rattle.hextile_codec.specs.Kinds.{IsSmall, IsChosen, IsTileSize, drawn_len}
+use Rattle.hextile_codec.specs.TileKinds.{IsSmall, IsChosen, IsTileSize, drawn_len}
 use Rattle.hextile_codec.specs.declared.source.TileValues.{TileValues}
 use Rattle.hextile_codec.specs.Sources.{AreOfTile, shows}
 use Rattle.hextile_codec.specs.Subrects.{subrect_in, subrects_in}
@@ -32,7 +32,7 @@ put_raw-requires c =
     let before : Carried = carried_by c.args.said.now in
     let choice : TileChoice = c.args.choice.now in
     let is_raw : choice.kind ≡ Raw = c.is_raw.ensures.0 c.if-not-is_raw.false in
-    let form : Runs = c.requires.chosen.0 in
+    let form : RectForm = c.requires.chosen.0 in
     let size : IsTileSize tile.w tile.h = c.requires.size in
     let is : IsChosen form format before tile.w tile.h canvas (subrects_in format c.args.subrects.now) choice = c.requires.chosen.1 in
     let of : AreOfTile seen tile.w tile.h canvas = c.seen-seen.ensures canvas c.read-is_read.ensures in
@@ -57,7 +57,7 @@ put_drawn-requires c =
     let not_raw : choice.kind ≡ Raw → ⊥ = λ raw. (let never : false ≡ true = sym c.if-not-is_raw.true ∙ c.is_raw.ensures.1 raw in absurd cc) in
     let runs : List Run = c.args.subrects.now.runs.now in
     let found : List Subrect = subrects_in format c.args.subrects.now in
-    let form : Runs = c.requires.chosen.0 in
+    let form : RectForm = c.requires.chosen.0 in
     let size : IsTileSize tile.w tile.h = c.requires.size in
     let is : IsChosen form format before tile.w tile.h canvas found choice = c.requires.chosen.1 in
     let says = says_drawn form format before tile.w tile.h canvas found choice.background choice.kind (tile_bytes_as form format before tile.w tile.h canvas).0 not_raw is.written in

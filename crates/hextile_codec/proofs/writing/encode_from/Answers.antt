@@ -4,7 +4,7 @@ use Rattle.pixel_format.specs.PixelFormat.{PixelFormat, pixel_len}
 use Rattle.raster.specs.declared.encoding.Encoding.TheVariants.{Hextile}
 use Rattle.raster.specs.Screen.{Canvas, value_at, values_of}
 use Rattle.raster.proofs.Places.{length_values}
-use Rattle.joined_runs.specs.declared.runs.Runs.TheVariants.{OfRows, Joined}
+use Rattle.joined_runs.specs.declared.rect_form.RectForm.TheVariants.{OfRows, Joined}
 use Rattle.joined_runs.specs.Joined.{form_of, hextile_bytes_as, shorter}
 use Rattle.hextile_codec.specs.Sources.{shows}
 use Rattle.hextile_codec.proofs.Alike.{of_values, some_wide}

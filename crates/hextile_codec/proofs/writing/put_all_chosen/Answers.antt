@@ -5,10 +5,10 @@ use Rattle.pixel_format.specs.PixelFormat.{PixelFormat}
 use Rattle.raster.specs.declared.rect.Rect.{Rect}
 use Rattle.raster.specs.Screen.{Canvas, tile_count}
 use Rattle.raster.specs.Encoding.{Carried}
-use Rattle.joined_runs.specs.declared.runs.Runs.TheVariants.{Joined}
+use Rattle.joined_runs.specs.declared.rect_form.RectForm.TheVariants.{Joined}
 use Rattle.joined_runs.specs.Joined.{hextile_bytes_as}
-use Rattle.hextile_codec.specs.declared.kind.Kind.TheVariants.{Raw}
-use Rattle.hextile_codec.specs.declared.kind.TileChoice.{TileChoice}
+use Rattle.hextile_codec.specs.declared.tile_kind.TileKind.TheVariants.{Raw}
+use Rattle.hextile_codec.specs.declared.tile_kind.TileChoice.{TileChoice}
 use Rattle.hextile_codec.specs.Carried.{carried_by}
 use Rattle.hextile_codec.specs.Sources.{shows}
 use Rattle.hextile_codec.proofs.Choices.{carried_on, choice_at}

@@ -4,12 +4,12 @@ use Rattle.pixel_format.specs.PixelFormat.{PixelFormat}
 use Rattle.raster.specs.declared.rect.Rect.{Rect}
 use Rattle.raster.specs.Screen.{Canvas, part_of, tile_count}
 use Rattle.raster.specs.Encoding.{Carried}
-use Rattle.joined_runs.specs.declared.runs.Runs.TheVariants.{OfRows, Joined}
+use Rattle.joined_runs.specs.declared.rect_form.RectForm.TheVariants.{OfRows, Joined}
 use Rattle.joined_runs.specs.Joined.{hextile_bytes_as}
 use Rattle.joined_runs.specs.Tinted.{tinted_subrect}
 use Rattle.hextile_codec.specs.declared.kept.TileForm.{TileForm}
 use Rattle.hextile_codec.specs.Carried.{carried_by}
-use Rattle.hextile_codec.specs.Kinds.{IsChosen, subrect_of}
+use Rattle.hextile_codec.specs.TileKinds.{IsChosen, subrect_of}
 use Rattle.hextile_codec.specs.Sources.{shows}
 use Rattle.hextile_codec.specs.Subrects.{subrects_in}
 use Rattle.hextile_codec.proofs.Encoded.{none_fits, second_fits, second_shorter, shorter_first}

@@ -3,10 +3,10 @@ use Rattle.std.proofs.lemmas.List.{length-take}
 use Rattle.raster.specs.declared.rect.Rect.{Rect}
 use Rattle.raster.specs.Screen.{Canvas, part_of, tile_count}
 use Rattle.raster.specs.Encoding.{Carried}
-use Rattle.joined_runs.specs.declared.runs.Runs.TheVariants.{OfRows}
+use Rattle.joined_runs.specs.declared.rect_form.RectForm.TheVariants.{OfRows}
 use Rattle.joined_runs.specs.Joined.{hextile_bytes_as}
 use Rattle.hextile_codec.specs.Carried.{carried_by}
-use Rattle.hextile_codec.specs.Kinds.{IsChosen}
+use Rattle.hextile_codec.specs.TileKinds.{IsChosen}
 use Rattle.hextile_codec.specs.Sources.{shows}
 use Rattle.hextile_codec.specs.Subrects.{subrects_in}
 use Rattle.hextile_codec.proofs.Tiles.{IsTileOf, tile_area, tile_of, tile_written, tile_is_put, too_long, all_put}

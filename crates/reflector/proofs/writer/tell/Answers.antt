@@ -7,7 +7,7 @@ returns-clause-relay g c = let parts = c.into_parts-taker.ensures in let began =
 pub returns-clause-counted : goal.returns-clause-counted
 returns-clause-counted g c =
     let parts = c.into_parts-taker.ensures in let began = c.new-free.ensures.parts in
-    rw (parts.1, parts.2, parts.3) (rw (began.1, began.2, began.3, c.new-untold.ensures) at c.write-left.ensures.counted)
+    rw (parts.1, parts.2, parts.3) (rw (began.1, began.2, began.3, c.new-drops.ensures) at c.write-left.ensures.counted)
 
 pub returns-clause-told : goal.returns-clause-told
 returns-clause-told g c =

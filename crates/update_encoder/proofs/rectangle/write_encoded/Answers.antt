@@ -1,7 +1,7 @@
 use Rattle.std.proofs.Common.{◌≡◌, ℕ, ◌++◌, List, take, Some, refl, ap, ◌∙◌}
 use Rattle.std.proofs.lemmas.List.{take-append-le}
 use Rattle.raster.specs.Encoding.{encoding_number}
-use Rattle.joined_runs.specs.declared.runs.Runs.{Runs}
+use Rattle.joined_runs.specs.declared.rect_form.RectForm.{RectForm}
 use Rattle.joined_runs.specs.Joined.{IsEncodedAs, form_of}
 use Rattle.rfb_wire.specs.Writing.{rectangle_head_bytes}
 use Rattle.update_encoder.specs.Answer.{pixels_in}
@@ -13,7 +13,7 @@ pub returns-clause-written : goal.returns-clause-written
 returns-clause-written c =
     let area = c.args.area.now in
     let cut = c.args.cut.now in
-    let runs : Runs = c.args.style.now.runs in
+    let runs : RectForm = c.args.style.now.runs in
     let format = c.args.style.now.format in
     let kind = c.args.style.now.choice.kind in
     let len : ℕ = c.in_ok-len.len in

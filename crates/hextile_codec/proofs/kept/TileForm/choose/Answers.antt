@@ -1,10 +1,10 @@
 use Rattle.std.proofs.Common.{◌≡◌, map, refl, sym, ap, ◌∙◌}
-use Rattle.joined_runs.specs.declared.runs.Runs.TheVariants.{OfRows, Joined}
+use Rattle.joined_runs.specs.declared.rect_form.RectForm.TheVariants.{OfRows, Joined}
 use Rattle.joined_runs.specs.Joined.{subrects_of}
 use Rattle.joined_runs.specs.Tinted.{tinted_subrect}
 use Rattle.joined_runs.proofs.Recoloured.{subrects_tinted}
 use Rattle.hextile_codec.specs.Heads.{IsHeadOf}
-use Rattle.hextile_codec.specs.Kinds.{subrect_of}
+use Rattle.hextile_codec.specs.TileKinds.{subrect_of}
 use Rattle.hextile_codec.proofs.Tinted.{head_tinted}
 use Rattle.hextile_codec.proofs.kept.TileForm.choose.Goals as goal
 

@@ -8,12 +8,12 @@ use Rattle.rebuilt_index.proofs.seeker.Seeker.begin.Goals as goal
 pub returns-then-not-may_begin-clause-ok : goal.returns-then-not-may_begin-clause-ok
 returns-then-not-may_begin-clause-ok c = λ blocks block seeks is same.
     let s = c.args.self.now in
-    goes_on s.main s.trial s.moments.items s.last blocks block c.args.said.now same seeks
+    goes_on s.main s.candidate s.moments.items s.last blocks block c.args.said.now same seeks
 
 pub returns-clause-ok : goal.returns-clause-ok
 returns-clause-ok c = λ blocks block seeks is same.
     let s = c.args.self.now in
-    tries s.main c.in_ok-follower.follower s.trial s.moments.items s.last c.args.moment blocks block c.args.said.now c.size-width.result.0 c.size-width.result.1 same is c.size-width.ensures.0 c.size-width.ensures.1 (c.may_begin.ensures c.if-not-may_begin.false) c.in_ok-follower.ensures.ok seeks
+    tries s.main c.in_ok-follower.follower s.candidate s.moments.items s.last c.args.moment blocks block c.args.said.now c.size-width.result.0 c.size-width.result.1 same is c.size-width.ensures.0 c.size-width.ensures.1 (c.may_begin.ensures c.if-not-may_begin.false) c.in_ok-follower.ensures.ok seeks
 
 pub returns-in_err-follower-clause-err : goal.returns-in_err-follower-clause-err
 returns-in_err-follower-clause-err c =
@@ -21,4 +21,4 @@ returns-in_err-follower-clause-err c =
     let s = c.args.self.now in
     let w : ℕ = c.size-width.result.0 in
     let h : ℕ = c.size-width.result.1 in
-    rw (p.1, p.2) (λ blocks seeks. only_memory w h c.in_err-follower.field-0.0 (seeks_size s.main s.trial s.moments.items s.last blocks w h c.size-width.ensures.0 c.size-width.ensures.1 seeks) c.in_err-follower.ensures.err)
+    rw (p.1, p.2) (λ blocks seeks. only_memory w h c.in_err-follower.field-0.0 (seeks_size s.main s.candidate s.moments.items s.last blocks w h c.size-width.ensures.0 c.size-width.ensures.1 seeks) c.in_err-follower.ensures.err)

@@ -18,7 +18,7 @@ use Rattle.rebuilt_index.proofs.seeker.Seeker.new.Goals as goal
 
 seeks_nothing : (rest : List ℕ) (main : Follower) (moments : List KeyMoment) (blocks : List Block) (hello : List ℕ) (joined : Joined) → moments ≡ [] → IsOpened blocks hello joined rest → Follows joined.w joined.h main [] → SeeksBy rest main None moments start blocks
 seeks_nothing rest main moments blocks hello joined none opened follows =
-    subst (λ (ms : List KeyMoment). SeeksBy rest main None ms start blocks) (sym none) (record { hello = hello; joined = joined; stream = []; opened = opened; main = follows; trial = tt; found = found_none blocks; last = refl })
+    subst (λ (ms : List KeyMoment). SeeksBy rest main None ms start blocks) (sym none) (record { hello = hello; joined = joined; stream = []; opened = opened; main = follows; candidate = tt; found = found_none blocks; last = refl })
 
 pub returns-clause-ok : goal.returns-clause-ok
 returns-clause-ok c = λ blocks hello rest opened.

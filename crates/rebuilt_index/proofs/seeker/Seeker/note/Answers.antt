@@ -13,5 +13,5 @@ returns-clause-ok c = λ blocks seeks key.
     let place : s.last.place ≤ m.place = omega arith in
     let short : m.time < 2 ^ 32 = omega arith in
     let near : m.place < 2 ^ 64 = omega arith in
-    subst (λ (ms : List KeyMoment). SeeksBy [] s.main s.trial ms m blocks) (sym c.in_ok-push.ensures.items)
-    (notes s.main s.trial s.moments.items s.last m blocks seeks key time place short near)
+    subst (λ (ms : List KeyMoment). SeeksBy [] s.main s.candidate ms m blocks) (sym c.in_ok-push.ensures.items)
+    (notes s.main s.candidate s.moments.items s.last m blocks seeks key time place short near)

@@ -1,7 +1,7 @@
 use Rattle.std.proofs.Common.{[], ℕ, List, subst}
 use Rattle.reflect_world.specs.Schedule.{Join}
 use Rattle.reflect_world.specs.World.{JoinsUnder, ShowsUnder}
-use Rattle.reflect_world.specs.declared.step.Entry.TheVariants.{Joined}
+use Rattle.reflect_world.specs.declared.step.ScheduleEntry.TheVariants.{Joined}
 use Rattle.reflect_world.proofs.Keeping.{kept_joined}
 use Rattle.reflect_world.proofs.world.World.join.Goals as goal
 

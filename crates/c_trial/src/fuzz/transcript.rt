@@ -4,15 +4,15 @@ use fault::Fault;
 
 /// Bytes that are written one after the other, as far as they have room.
 #[derive(Drop)]
-pub struct Report<'a> {
+pub struct Transcript<'a> {
     out: &'a mut [u8],
     len: usize,
 }
 
-impl<'a> Report<'a> {
+impl<'a> Transcript<'a> {
     /// Nothing, with this room.
-    pub fn new(out: &'a mut [u8]) -> Report<'a> {
-        Report { out, len: 0 }
+    pub fn new(out: &'a mut [u8]) -> Transcript<'a> {
+        Transcript { out, len: 0 }
     }
 
     /// How many bytes are written.

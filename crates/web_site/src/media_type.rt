@@ -2,11 +2,11 @@
 
 ghost use Rattle.std.specs.Prelude.{◌≡◌, IsTrue};
 ghost use Rattle.http.specs.FieldValue.{is_visible_text};
-ghost use Rattle.web_site.specs.Kinds.{kind_by_name, content_type};
+ghost use Rattle.web_site.specs.MediaTypes.{media_type_by_name, content_type};
 
 /// What a file is.
 #[derive(Clone, Copy, Debug, PartialEq, Eq)]
-pub enum Kind {
+pub enum MediaType {
     /// An HTML page.
     Html,
     /// A JavaScript file.
@@ -31,56 +31,56 @@ pub enum Kind {
     TrueType,
 }
 
-impl Kind {
+impl MediaType {
     /// What a file of this name is, or `None` where files of its ending aren't served.
-    pub fn of(name: &str) -> Option<Kind>
-        ensures { result ≡ kind_by_name name.now }
+    pub fn of(name: &str) -> Option<MediaType>
+        ensures { result ≡ media_type_by_name name.now }
     {
         let name = name.as_bytes();
         if name.ends_with(b".html") {
-            Some(Kind::Html)
+            Some(MediaType::Html)
         } else if name.ends_with(b".js") {
-            Some(Kind::Script)
+            Some(MediaType::Script)
         } else if name.ends_with(b".css") {
-            Some(Kind::Style)
+            Some(MediaType::Style)
         } else if name.ends_with(b".json") {
-            Some(Kind::Json)
+            Some(MediaType::Json)
         } else if name.ends_with(b".svg") {
-            Some(Kind::Svg)
+            Some(MediaType::Svg)
         } else if name.ends_with(b".png") {
-            Some(Kind::Png)
+            Some(MediaType::Png)
         } else if name.ends_with(b".ico") {
-            Some(Kind::Icon)
+            Some(MediaType::Icon)
         } else if name.ends_with(b".mp3") {
-            Some(Kind::Mp3)
+            Some(MediaType::Mp3)
         } else if name.ends_with(b".oga") {
-            Some(Kind::Ogg)
+            Some(MediaType::Ogg)
         } else if name.ends_with(b".woff") {
-            Some(Kind::Woff)
+            Some(MediaType::Woff)
         } else if name.ends_with(b".ttf") {
-            Some(Kind::TrueType)
+            Some(MediaType::TrueType)
         } else {
             None
         }
     }
 
-    /// The Content-Type by which a browser is told this kind (RFC 9110, section 8.3).
+    /// The Content-Type by which a browser is told it (RFC 9110, section 8.3).
     pub fn content_type(self) -> &'static str
         ensures value { result.now ≡ content_type self }
         ensures visible { IsTrue (is_visible_text result.now) }
     {
         match self {
-            Kind::Html => "text/html; charset=utf-8",
-            Kind::Script => "text/javascript; charset=utf-8",
-            Kind::Style => "text/css; charset=utf-8",
-            Kind::Json => "application/json",
-            Kind::Svg => "image/svg+xml",
-            Kind::Png => "image/png",
-            Kind::Icon => "image/x-icon",
-            Kind::Mp3 => "audio/mpeg",
-            Kind::Ogg => "audio/ogg",
-            Kind::Woff => "font/woff",
-            Kind::TrueType => "font/ttf",
+            MediaType::Html => "text/html; charset=utf-8",
+            MediaType::Script => "text/javascript; charset=utf-8",
+            MediaType::Style => "text/css; charset=utf-8",
+            MediaType::Json => "application/json",
+            MediaType::Svg => "image/svg+xml",
+            MediaType::Png => "image/png",
+            MediaType::Icon => "image/x-icon",
+            MediaType::Mp3 => "audio/mpeg",
+            MediaType::Ogg => "audio/ogg",
+            MediaType::Woff => "font/woff",
+            MediaType::TrueType => "font/ttf",
         }
     }
 }

@@ -3,13 +3,13 @@ use Rattle.std.proofs.lemmas.List.{length-map}
 use Rattle.raster.specs.declared.rect.Rect.{Rect}
 use Rattle.raster.specs.Screen.{Canvas, value_at, part_of}
 use Rattle.raster.specs.Encoding.{Subrect}
-use Rattle.joined_runs.specs.declared.runs.Runs.TheVariants.{OfRows}
+use Rattle.joined_runs.specs.declared.rect_form.RectForm.TheVariants.{OfRows}
 use Rattle.joined_runs.specs.Joined.{subrects_of}
 use Rattle.hextile_codec.specs.declared.runs.Run.{Run}
 use Rattle.hextile_codec.specs.Carried.{carried_by}
-use Rattle.hextile_codec.specs.Kinds.{HasMany, IsFoundAs, kind_of, subrect_of}
+use Rattle.hextile_codec.specs.TileKinds.{HasMany, IsFoundAs, kind_of, subrect_of}
 use Rattle.hextile_codec.proofs.Searched.{many_of, found_of}
-use Rattle.hextile_codec.proofs.kind.choose.Goals as goal
+use Rattle.hextile_codec.proofs.tile_kind.choose.Goals as goal
 
 pub returns-in_default : goal.returns-in_default
 returns-in_default c =

@@ -4,12 +4,12 @@ ghost use Rattle.std.specs.Prelude.{◌≡◌, ℕ, ◌+◌, ◌*◌, ◌<◌, �
 ghost use Rattle.pixel_format.specs.PixelFormat.{pixel_len};
 ghost use Rattle.raster.specs.Screen.{Canvas, value_at, part_of};
 ghost use Rattle.raster.specs.Encoding.{Carried, Subrect, drawn_bytes, unless_said};
-ghost use Rattle.joined_runs.specs.declared.runs.Runs.{Runs};
-ghost use Rattle.joined_runs.specs.declared.runs.Runs.TheVariants.{OfRows, Joined};
+ghost use Rattle.joined_runs.specs.declared.rect_form.RectForm.{RectForm};
+ghost use Rattle.joined_runs.specs.declared.rect_form.RectForm.TheVariants.{OfRows, Joined};
 ghost use Rattle.joined_runs.specs.Joined.{background_of, subrects_of};
 ghost use Rattle.hextile_codec.specs.Carried.{carried_by};
 ghost use Rattle.hextile_codec.specs.Heads.{AreFound, IsHeadOf};
-ghost use Rattle.hextile_codec.specs.Kinds.{subrect_of, kind_of, leaves_of, drawn_len, enough_of, HasMany, IsChosen};
+ghost use Rattle.hextile_codec.specs.TileKinds.{subrect_of, kind_of, leaves_of, drawn_len, enough_of, HasMany, IsChosen};
 ghost use Rattle.hextile_codec.specs.Marks.{LiesAmong};
 
 use crate::colours::{Colours, is_said};
@@ -20,7 +20,7 @@ use raster::{Rect, TILE_SIDE};
 
 /// What a tile is written as (RFC 6143, section 7.7.4).
 #[derive(Clone, Copy, Default)]
-pub enum Kind {
+pub enum TileKind {
     /// Its pixels.
     #[default]
     Raw,
@@ -35,7 +35,7 @@ pub enum Kind {
 /// What is known of a tile before it is written: its kind, its first pixel's value, and how many bytes it has.
 #[derive(Clone, Copy, Default)]
 pub struct TileChoice {
-    pub kind: Kind,
+    pub kind: TileKind,
     pub background: u32,
     pub len: usize,
 }
@@ -63,13 +63,13 @@ impl Said {
 }
 
 /// The kind of a tile of these runs that isn't Raw.
-fn kind_of(runs: &[Run]) -> Kind
+fn kind_of(runs: &[Run]) -> TileKind
     ensures { result ≡ kind_of (map subrect_of runs.now) }
 {
     match runs.first() {
-        None => Kind::Plain,
-        Some(first) if has_one_value(runs) => Kind::TwoColours(first.value),
-        Some(_) => Kind::Coloured,
+        None => TileKind::Plain,
+        Some(first) if has_one_value(runs) => TileKind::TwoColours(first.value),
+        Some(_) => TileKind::Coloured,
     }
 }
 
@@ -85,16 +85,22 @@ fn colour_len(format: &Format, before: Option<u32>, value: u32) -> usize
 }
 
 /// How many bytes a tile of this many runs has that isn't Raw.
-fn drawn_len(format: &Format, said: &Colours, background: u32, kind: Kind, count: usize) -> usize
+fn drawn_len(
+    format: &Format,
+    said: &Colours,
+    background: u32,
+    kind: TileKind,
+    count: usize,
+) -> usize
     requires { count ≤ TILE_AREA }
     ensures { result ≡ drawn_len format.now (carried_by said.now) background kind count }
 {
     let head = 1 + colour_len(format, said.background, background);
     match kind {
-        Kind::TwoColours(foreground) => {
+        TileKind::TwoColours(foreground) => {
             head + colour_len(format, said.foreground, foreground) + 1 + 2 * count
         }
-        Kind::Coloured => head + 1 + (format.bytes() + 2) * count,
+        TileKind::Coloured => head + 1 + (format.bytes() + 2) * count,
         _ => head,
     }
 }
@@ -115,7 +121,7 @@ fn enough_for(format: &Format, tile: &Rect) -> usize
 #[derive(Clone, Copy)]
 pub struct Head {
     pub background: u32,
-    pub kind: Kind,
+    pub kind: TileKind,
     pub count: usize,
 }
 
@@ -153,7 +159,7 @@ impl Head {
         requires w_most { tile.now.w ≤ TILE_SIDE }
         requires h_most { tile.now.h ≤ TILE_SIDE }
         requires few { self.now.count ≤ TILE_AREA }
-        ensures choice { (form : Runs) (canvas : Canvas) (found : List Subrect)
+        ensures choice { (form : RectForm) (canvas : Canvas) (found : List Subrect)
             → IsHeadOf form tile.now.w tile.now.h canvas self.now
             → found ≡ subrects_of form tile.now.w tile.now.h canvas
             → IsChosen form format.now (carried_by said.now)
@@ -179,17 +185,17 @@ fn raw_choice(format: &Format, tile: &Rect) -> TileChoice
     requires h_most { tile.now.h ≤ TILE_SIDE }
     ensures len { result.len ≡ 1 + pixel_len format.now * (tile.now.w * tile.now.h) }
     ensures few { result.len ≤ 1025 }
-    ensures least { (form : Runs) (canvas : Canvas) (found : List Subrect) (before : Carried)
+    ensures least { (form : RectForm) (canvas : Canvas) (found : List Subrect) (before : Carried)
         → 1 + pixel_len format.now * (tile.now.w * tile.now.h)
         ≤ length (drawn_bytes format.now before (background_of form tile.now.w tile.now.h canvas)
         (subrects_of form tile.now.w tile.now.h canvas))
         → IsChosen form format.now before tile.now.w tile.now.h canvas found result }
-    ensures many { (form : Runs) (canvas : Canvas) (found : List Subrect) (before : Carried)
+    ensures many { (form : RectForm) (canvas : Canvas) (found : List Subrect) (before : Carried)
         → HasMany form tile.now.w tile.now.h canvas (enough_of format.now tile.now.w tile.now.h)
         → IsChosen form format.now before tile.now.w tile.now.h canvas found result }
 {
     TileChoice {
-        kind: Kind::Raw,
+        kind: TileKind::Raw,
         background: 0,
         len: 1 + format.bytes() * (tile.w * tile.h) as usize,
     }
@@ -228,7 +234,7 @@ pub fn choose(
 
 /// The kind of a tile of the runs of its rows, by that of its joined runs. In both forms it is told by the tile's values
 /// other than its background.
-fn kind_of_rows(joined: Kind, backgrounds: &Backgrounds) -> Kind
+fn kind_of_rows(joined: TileKind, backgrounds: &Backgrounds) -> TileKind
     ensures { (w h : ℕ) (canvas : Canvas) (found : List Subrect) → 0 < w → 0 < h
         → AreFound w h canvas found backgrounds.now
         → joined ≡ kind_of found
@@ -238,7 +244,7 @@ fn kind_of_rows(joined: Kind, backgrounds: &Backgrounds) -> Kind
         return joined;
     }
     match joined {
-        Kind::TwoColours(_) => Kind::TwoColours(backgrounds.joined),
+        TileKind::TwoColours(_) => TileKind::TwoColours(backgrounds.joined),
         _ => joined,
     }
 }
@@ -299,9 +305,9 @@ impl Choices {
 impl TileChoice {
     /// Whether the tile is written as its pixels.
     pub fn is_raw(&self) -> bool
-        ensures { IsTrue result ↔ self.now.kind ≡ Kind.Raw }
+        ensures { IsTrue result ↔ self.now.kind ≡ TileKind.Raw }
     {
-        matches!(self.kind, Kind::Raw)
+        matches!(self.kind, TileKind::Raw)
     }
 
     /// What the next tile may leave off.
@@ -309,11 +315,11 @@ impl TileChoice {
         ensures { carried_by result ≡ leaves_of self.now.kind self.now.background }
     {
         let background = match self.kind {
-            Kind::Raw => None,
+            TileKind::Raw => None,
             _ => Some(self.background),
         };
         let foreground = match self.kind {
-            Kind::TwoColours(foreground) => Some(foreground),
+            TileKind::TwoColours(foreground) => Some(foreground),
             _ => None,
         };
         Colours {

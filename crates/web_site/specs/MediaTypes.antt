@@ -1,12 +1,12 @@
 -- The kinds of files, by the endings of their names, and how each is named to a browser (RFC 9110, 8.3).
 use Rattle.std.specs.Prelude.{ℕ, List, Option, None, Some, codes, nat_eq, if◌then◌else◌}
 use Rattle.std.specs.List.{ends_with}
-use Rattle.web_site.specs.declared.kind.Kind.{Kind}
-use Rattle.web_site.specs.declared.kind.Kind.TheVariants.{Html, Script, Style, Json, Svg, Png, Icon, Mp3, Ogg, Woff, TrueType}
+use Rattle.web_site.specs.declared.media_type.MediaType.{MediaType}
+use Rattle.web_site.specs.declared.media_type.MediaType.TheVariants.{Html, Script, Style, Json, Svg, Png, Icon, Mp3, Ogg, Woff, TrueType}
 
--- The kind of a file, by its name. A file with another ending isn't served.
-abbrev pub kind_by_name : List ℕ → Option Kind
-kind_by_name name =
+-- The media type of a file, by its name. A file with another ending isn't served.
+abbrev pub media_type_by_name : List ℕ → Option MediaType
+media_type_by_name name =
     if ends_with nat_eq name (codes ".html") then Some Html else
     if ends_with nat_eq name (codes ".js") then Some Script else
     if ends_with nat_eq name (codes ".css") then Some Style else
@@ -20,7 +20,7 @@ kind_by_name name =
     if ends_with nat_eq name (codes ".ttf") then Some TrueType else
     None
 
-abbrev pub content_type : Kind → List ℕ
+abbrev pub content_type : MediaType → List ℕ
 content_type Html = codes "text/html; charset=utf-8"
 content_type Script = codes "text/javascript; charset=utf-8"
 content_type Style = codes "text/css; charset=utf-8"

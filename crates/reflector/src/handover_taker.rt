@@ -47,23 +47,23 @@ impl<L: Link> CameLink<L> {
     }
 }
 
-/// The turns of a handover's hosts, one after another.
+/// The end of a handover at which the links of the hosts that are told come out, one after another.
 #[derive(Drop)]
-pub(crate) struct Turns<L: Link, W: Alarm + Drop> {
+pub(crate) struct HandoverTaker<L: Link, W: Alarm + Drop> {
     handover: Arc<Handover<L, W>, Global>,
 }
 
 /// The flag of one host, which is set once that host was left.
 #[derive(Drop)]
-pub(crate) struct Turn<'a, L: Link, W: Alarm + Drop> {
+pub(crate) struct LeftFlag<'a, L: Link, W: Alarm + Drop> {
     handover: &'a Handover<L, W>,
     number: u64,
 }
 
-impl<L: Link, W: Alarm + Drop> Turns<L, W> {
-    /// The turns of this handover's hosts.
-    pub(crate) fn new(handover: Arc<Handover<L, W>, Global>) -> Turns<L, W> {
-        Turns { handover }
+impl<L: Link, W: Alarm + Drop> HandoverTaker<L, W> {
+    /// The end of this handover.
+    pub(crate) fn new(handover: Arc<Handover<L, W>, Global>) -> HandoverTaker<L, W> {
+        HandoverTaker { handover }
     }
 
     /// Waits for the link of the next host that is told, and seals it. It answers `None` where no more come. No clause
@@ -74,15 +74,15 @@ impl<L: Link, W: Alarm + Drop> Turns<L, W> {
     }
 
     /// The flag of the host whose link this is.
-    pub(crate) fn turn_of(&self, came: &CameLink<L>) -> Turn<'_, L, W> {
-        Turn {
+    pub(crate) fn left_flag(&self, came: &CameLink<L>) -> LeftFlag<'_, L, W> {
+        LeftFlag {
             handover: &*self.handover,
             number: came.number,
         }
     }
 }
 
-impl<'a, L: Link, W: Alarm + Drop> StopFlag for Turn<'a, L, W> {
+impl<'a, L: Link, W: Alarm + Drop> StopFlag for LeftFlag<'a, L, W> {
     ghost use Rattle.std.specs.Prelude.{⊤};
 
     ghost was_set = { λ _. ⊤ };

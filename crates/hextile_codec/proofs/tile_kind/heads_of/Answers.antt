@@ -1,7 +1,7 @@
 use Rattle.std.proofs.Common.{◌∙◌, length, sym, ap}
 use Rattle.std.proofs.lemmas.List.{length-map}
-use Rattle.hextile_codec.specs.Kinds.{kind_of, subrect_of}
-use Rattle.hextile_codec.proofs.kind.heads_of.Goals as goal
+use Rattle.hextile_codec.specs.TileKinds.{kind_of, subrect_of}
+use Rattle.hextile_codec.proofs.tile_kind.heads_of.Goals as goal
 
 pub returns : goal.returns
 returns c = λ w h canvas wide high are. (

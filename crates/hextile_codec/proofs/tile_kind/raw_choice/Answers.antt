@@ -4,9 +4,9 @@ use Rattle.pixel_format.specs.PixelFormat.{PixelFormat, pixel_len}
 use Rattle.raster.specs.declared.rect.Rect.{Rect}
 use Rattle.raster.specs.Encoding.{Subrect, drawn_bytes}
 use Rattle.joined_runs.specs.Joined.{background_of, subrects_of}
-use Rattle.hextile_codec.specs.Kinds.{enough_of}
+use Rattle.hextile_codec.specs.TileKinds.{enough_of}
 use Rattle.hextile_codec.proofs.Drawings.{chosen_raw, mixed_least}
-use Rattle.hextile_codec.proofs.kind.raw_choice.Goals as goal
+use Rattle.hextile_codec.proofs.tile_kind.raw_choice.Goals as goal
 
 -- More runs than Raw's bytes hold.
 too_many : (raw p n d enough : ℕ) → enough ≡ raw / (p + 2) + 1 → enough ≤ n → (p + 2) * n ≤ d → raw ≤ d

@@ -12,7 +12,7 @@ use std::sync::Wait;
 
 /// Names a sender: its relay, and its place there. A sink with that name stays the same sender, whatever it is lent to.
 /// No value of such a type is ever made. It isn't the seat at which a place's thread waits (`connections::Seat`).
-pub(crate) trait Seat {
+pub(crate) trait SenderName {
     ghost use Rattle.std.specs.Prelude.{ℕ};
     ghost use Rattle.atomic_table.specs.Seated.{TableId};
 
@@ -23,7 +23,7 @@ pub(crate) trait Seat {
     ghost place: { ℕ };
 }
 
-impl Seat for Brand {
+impl SenderName for Brand {
     ghost use Rattle.reflector.specs.Senders.{no_relay};
 
     ghost relay = { no_relay };
@@ -33,18 +33,18 @@ impl Seat for Brand {
 
 /// The sender that has this name.
 #[derive(Drop)]
-pub(crate) struct Seated<T: Seat, R: Wait + Drop> {
+pub(crate) struct NamedSender<T: SenderName, R: Wait + Drop> {
     sender: Sender<R>,
     of: PhantomData<T>,
     ghost is_named: { (relay_of sender ≡ T.relay) × (place_of sender ≡ T.place) },
 }
 
-impl<T: Seat, R: Wait + Drop> Seated<T, R> {
+impl<T: SenderName, R: Wait + Drop> NamedSender<T, R> {
     pub(crate) fn new(sender: Sender<R>) -> Self
         requires { (relay_of sender ≡ T.relay) × (place_of sender ≡ T.place) }
         ensures { result.sender ≡ sender }
     {
-        Seated {
+        NamedSender {
             sender,
             of: PhantomData,
         }
@@ -55,13 +55,13 @@ impl<T: Seat, R: Wait + Drop> Seated<T, R> {
         ensures named { (relay_of result ≡ T.relay) × (place_of result ≡ T.place) }
         ensures same { result ≡ self.sender }
     {
-        let Seated { sender, of: _ } = self;
+        let NamedSender { sender, of: _ } = self;
         sender
     }
 }
 
-impl<T: Seat, R: Wait + Drop> InputSink for Seated<T, R> {
-    ghost sent = { λ seated. inputs_of seated.sender };
+impl<T: SenderName, R: Wait + Drop> InputSink for NamedSender<T, R> {
+    ghost sent = { λ named. inputs_of named.sender };
 
     ghost may_refuse = { λ fault. (fault ≡ QueueFull) ⊎ (fault ≡ NumbersOut) };
 

@@ -4,14 +4,14 @@ use Rattle.raster.specs.declared.rect.Rect.{Rect}
 use Rattle.raster.specs.Screen.{Canvas, value_at, part_of}
 use Rattle.raster.specs.Encoding.{Subrect}
 use Rattle.raster.proofs.Runs.{rows_count}
-use Rattle.joined_runs.specs.declared.runs.Runs.TheVariants.{OfRows, Joined}
+use Rattle.joined_runs.specs.declared.rect_form.RectForm.TheVariants.{OfRows, Joined}
 use Rattle.joined_runs.specs.Joined.{subrects_of}
 use Rattle.hextile_codec.specs.declared.runs.Run.{Run}
 use Rattle.hextile_codec.specs.Carried.{carried_by}
 use Rattle.hextile_codec.specs.Heads.{AreFound}
-use Rattle.hextile_codec.specs.Kinds.{HasMany, subrect_of}
+use Rattle.hextile_codec.specs.TileKinds.{HasMany, subrect_of}
 use Rattle.hextile_codec.proofs.Searched.{many_of, found_of}
-use Rattle.hextile_codec.proofs.kind.choose_both.Goals as goal
+use Rattle.hextile_codec.proofs.tile_kind.choose_both.Goals as goal
 
 pub returns-in_default-clause-joined : goal.returns-in_default-clause-joined
 returns-in_default-clause-joined c =

@@ -1,10 +1,10 @@
 use Rattle.std.proofs.Common.{◌≡◌, ◌∙◌, ℕ, refl, sym, ap}
 use Rattle.raster.specs.Screen.{values_of}
 use Rattle.joined_runs.specs.Joined.{joined_runs, most_frequent, runs_over}
-use Rattle.hextile_codec.specs.declared.kind.Kind.TheVariants.{TwoColours}
-use Rattle.hextile_codec.specs.Kinds.{kind_of}
+use Rattle.hextile_codec.specs.declared.tile_kind.TileKind.TheVariants.{TwoColours}
+use Rattle.hextile_codec.specs.TileKinds.{kind_of}
 use Rattle.hextile_codec.proofs.KindBeside.{joined_over, most_shown, not_two, rows_over, same_back, two_apart}
-use Rattle.hextile_codec.proofs.kind.kind_of_rows.Goals as goal
+use Rattle.hextile_codec.proofs.tile_kind.kind_of_rows.Goals as goal
 
 pub returns-then-backgrounds : goal.returns-then-backgrounds
 returns-then-backgrounds c w h canvas found lw lh are is =

@@ -3,11 +3,11 @@ use Rattle.pixel_format.specs.PixelFormat.{PixelFormat}
 use Rattle.raster.specs.declared.rect.Rect.{Rect}
 use Rattle.raster.specs.Encoding.{Subrect, Carried, drawn_bytes}
 use Rattle.joined_runs.specs.Joined.{background_of, subrects_of}
-use Rattle.hextile_codec.specs.declared.kind.Head.{Head}
+use Rattle.hextile_codec.specs.declared.tile_kind.Head.{Head}
 use Rattle.hextile_codec.specs.Carried.{carried_by}
-use Rattle.hextile_codec.specs.Kinds.{drawn_len, kind_of}
+use Rattle.hextile_codec.specs.TileKinds.{drawn_len, kind_of}
 use Rattle.hextile_codec.proofs.Drawings.{chosen_drawn, drawn_has}
-use Rattle.hextile_codec.proofs.kind.Head.choose.Goals as goal
+use Rattle.hextile_codec.proofs.tile_kind.Head.choose.Goals as goal
 
 pub returns-then-raw-len-clause-choice : goal.returns-then-raw-len-clause-choice
 returns-then-raw-len-clause-choice c form canvas found is all =

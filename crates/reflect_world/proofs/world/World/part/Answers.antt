@@ -1,9 +1,0 @@
-use Rattle.std.proofs.Common.{[]}
-use Rattle.reflect_world.specs.declared.step.Entry.TheVariants.{Parted}
-use Rattle.reflect_world.proofs.Keeping.{kept_joined}
-use Rattle.reflect_world.proofs.world.World.part.Goals as goal
-
-pub invariant_of-self-in-Ok-part : goal.invariant_of-self-in-Ok-part
-invariant_of-self-in-Ok-part c =
-    kept_joined (record { width = c.self.inside.width; height = c.self.inside.height; name = c.self.inside.name.items; room = c.self.inside.room; runs = c.self.inside.runs; steps = []; is_refused = c.self.inside.is_refused }) c.self.inside.schedule.items c.push.new.self.items (Parted c.args.viewer) c.self.inside.scene c.part.new.self c.self.invariant c.in-Ok.ensures.items
-    (λ s w named formed untold plain r. c.in-Ok-part.ensures.ok s w r) (λ s w named formed untold plain shown. c.in-Ok-part.ensures.shows s w shown)
