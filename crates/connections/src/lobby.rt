@@ -18,7 +18,9 @@ use fault::Fault;
 use link::{EitherLink, Link};
 use roles::Role;
 use run_control::Entry;
-use run_traits::{Door, Event, LeftLink, Log, Parting, PlaceCount, PlaceId, Visit, Way, Written};
+use run_traits::{
+    Door, Event, LeftLink, Log, Parting, PlaceCount, PlaceId, VisitSummary, Way, Written,
+};
 use std::alloc::{AllocError, Global};
 use std::io;
 use std::net::SocketAddr;
@@ -415,7 +417,7 @@ impl<R: Wait + Clock + Drop + Copy + Send, G: Log + Drop + Send> Door for TcpDoo
         let link = viewer.look();
         self.links.note(link);
         let connection = connection_of(link);
-        let visit = Visit {
+        let visit = VisitSummary {
             why,
             parting: parting_of(link),
             served: connection.age(),

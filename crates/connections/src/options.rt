@@ -9,7 +9,7 @@ use std::os::fd::{AsRawFd, RawFd};
 
 /// How long a peer that is gone, or takes nothing, is tolerated.
 #[derive(Drop)]
-struct Patience {
+struct Tolerance {
     /// Seconds without a byte after which the peer is asked whether it's there.
     idle: u32,
     /// Seconds between such questions.
@@ -27,12 +27,12 @@ const MOST_STALLED: u64 = 600;
 
 /// A viewer's line may be slow, or down for a while. So a viewer may take nothing for this many seconds, and is asked
 /// whether it's there once it has sent nothing for as many.
-fn with_viewers(seconds: u64) -> Patience
+fn with_viewers(seconds: u64) -> Tolerance
     ensures stalled { result.stalled ≡ 1000 * min (max seconds 10) 600 }
     ensures idle { result.idle ≡ min (max seconds 10) 600 }
 {
     let seconds = seconds.max(LEAST_STALLED).min(MOST_STALLED) as u32;
-    Patience {
+    Tolerance {
         idle: seconds,
         between: seconds / 4,
         times: 4,
@@ -41,7 +41,7 @@ fn with_viewers(seconds: u64) -> Patience
 }
 
 /// While a host is gone all viewers see an old picture, so the next host is to have its turn soon.
-const WITH_HOSTS: Patience = Patience {
+const WITH_HOSTS: Tolerance = Tolerance {
     idle: 5,
     between: 2,
     times: 3,
@@ -60,24 +60,24 @@ fn check(status: i32) -> io::Result<()> {
     Ok(())
 }
 
-fn keep_alive(fd: RawFd, patience: &Patience) -> io::Result<()> {
-    let Patience {
+fn keep_alive(fd: RawFd, tolerance: &Tolerance) -> io::Result<()> {
+    let Tolerance {
         idle,
         between,
         times,
         stalled: _,
-    } = *patience;
+    } = *tolerance;
     check(unsafe { c::setsockopt(fd, c::SOL_SOCKET, c::SO_KEEPALIVE, &word(1), 4) })?;
     check(unsafe { c::setsockopt(fd, c::IPPROTO_TCP, c::TCP_KEEPIDLE, &word(idle), 4) })?;
     check(unsafe { c::setsockopt(fd, c::IPPROTO_TCP, c::TCP_KEEPINTVL, &word(between), 4) })?;
     check(unsafe { c::setsockopt(fd, c::IPPROTO_TCP, c::TCP_KEEPCNT, &word(times), 4) })
 }
 
-fn outlast_for(stream: &TcpStream, patience: &Patience) -> io::Result<()> {
+fn outlast_for(stream: &TcpStream, tolerance: &Tolerance) -> io::Result<()> {
     stream.set_nodelay(true)?;
     let fd = stream.as_raw_fd();
-    let stalled = word(patience.stalled);
-    keep_alive(fd, patience)?;
+    let stalled = word(tolerance.stalled);
+    keep_alive(fd, tolerance)?;
     check(unsafe { c::setsockopt(fd, c::IPPROTO_TCP, c::TCP_USER_TIMEOUT, &stalled, 4) })
 }
 

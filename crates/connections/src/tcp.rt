@@ -5,10 +5,10 @@ ghost use Rattle.std.specs.Prelude.{◌≡◌};
 use crate::account::{Account, gave_of};
 use crate::greeted::GreetedSocket;
 use crate::hello::{HELLO_LEN, Patience, longest_wait};
-use crate::kept::{Kept, MOST_KEPT};
 use crate::noted::Noted;
 use crate::options::outlast;
 use crate::seat::Seat;
+use crate::send_buffer::{MOST_KEPT, SendBuffer};
 use crate::socket::Socket;
 use link::{Gave, Link, Took};
 use mio::net::TcpStream;
@@ -59,7 +59,7 @@ pub struct ViewerTcpLink<R: Wait + Clock + Drop, S: Socket = GreetedSocket<Noted
     rt: R,
     socket: S,
     seat: Arc<Seat, Global>,
-    kept: Kept,
+    kept: SendBuffer,
     // Whether the last `give` had no room.
     is_full: bool,
     // Whether the system had no room for the last write, and no wait has ended since.
@@ -174,7 +174,7 @@ impl<R: Wait + Clock + Drop, S: Socket> ViewerTcpLink<R, S> {
         ensures { IfOk result (λ link. link ≡ fresh) }
     {
         let opened = Instant::now(&rt)?;
-        let kept = Kept::new(alloc)?;
+        let kept = SendBuffer::new(alloc)?;
         let seat = Arc::try_clone(seat)?;
         Ok(ViewerTcpLink {
             rt,

@@ -80,7 +80,7 @@ impl Data {
 
     /// Takes all of a piece that ends inside the pixels of a Raw rectangle, and paints it. For any other it answers
     /// `false`, and nothing changes. It takes no memory.
-    pub(crate) fn feed_within(&mut self, painter: &mut Painter, piece: &[u8]) -> bool
+    pub(crate) fn feed_raw(&mut self, painter: &mut Painter, piece: &[u8]) -> bool
         requires width { self.old.width ≡ painter.old.width }
         requires height { self.old.height ≡ painter.old.height }
         ensures area { IsSameArea self.old self.new }

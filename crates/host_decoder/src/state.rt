@@ -81,7 +81,7 @@ impl HostState {
 
     /// Takes all of these bytes, where they end inside the pixels of a Raw rectangle. Otherwise it answers `false`, and
     /// nothing changes.
-    fn advance_within(&mut self, painter: &mut Painter, bytes: &[u8]) -> bool
+    fn advance_raw(&mut self, painter: &mut Painter, bytes: &[u8]) -> bool
         requires suits { Suits painter.old.width painter.old.height self.old }
         ensures stays { Stays painter.old painter.new self.new }
         ensures uses { IsTrue result → (start : Canvas) (r : Reading ServerMessage)
@@ -90,7 +90,7 @@ impl HostState {
         ensures others { IsFalse result → (self.new ≡ self.old) × (painter.new ≡ painter.old) }
     {
         match self {
-            HostState::Pixels(_, reader) => reader.feed_within(painter, bytes),
+            HostState::Pixels(_, reader) => reader.feed_raw(painter, bytes),
             _ => false,
         }
     }
@@ -137,7 +137,7 @@ impl HostState {
     {
         // Most pieces of a large update are such bytes. `step` answers with room for a whole state, and filling that
         // room for each piece costs noticeable time where pieces are small.
-        if self.advance_within(painter, bytes) {
+        if self.advance_raw(painter, bytes) {
             return bytes.len();
         }
         let (next, count) = self.step(alloc, painter, bytes);

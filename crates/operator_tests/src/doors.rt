@@ -1,7 +1,7 @@
 //! Tests of lines that are requests and of lines that aren't, and of a sequence of comings, leavings and requests.
 
 use roles::Role;
-use run_control::{Doors, Entry, Outcome, Place, Request, StateForm};
+use run_control::{Doors, Entry, Outcome, PlaceState, Request, StateForm};
 use std::net::{IpAddr, Ipv4Addr, Ipv6Addr, SocketAddr};
 use std::test::Fail;
 
@@ -135,14 +135,14 @@ fn a_drained_door_lets_nobody_in(rt: HostRuntime) -> Result<(), Fail> {
     assert_eq!(rt; doors.ask(Request::Drain), Outcome::Done);
     assert_eq!(rt; doors.entry(), Entry::Drained);
     assert!(rt; !doors.enter(1));
-    assert_eq!(rt; doors.place(2), Some(Place::Taken));
+    assert_eq!(rt; doors.place(2), Some(PlaceState::Taken));
     assert!(rt; !doors.is_asked(2));
     doors.leave(2);
     assert!(rt; !doors.enter(2));
     assert_eq!(rt; doors.ask(a_call()), Outcome::Drained);
     assert_eq!(rt; doors.ask(Request::Undrain), Outcome::Done);
     assert_eq!(rt; doors.ask(a_call()), Outcome::Done);
-    assert_eq!(rt; (doors.place(1), doors.free()), (Some(Place::Free), 3));
+    assert_eq!(rt; (doors.place(1), doors.free()), (Some(PlaceState::Free), 3));
     assert!(rt; doors.enter(2) && doors.enter(1));
     assert_eq!(rt; doors.free(), 1);
     Ok(())
@@ -159,7 +159,7 @@ fn one_is_asked_to_leave_and_then_all(rt: HostRuntime) -> Result<(), Fail> {
     assert_eq!(rt; doors.ask(Request::End(4)), Outcome::Nobody);
     assert_eq!(rt; doors.ask(Request::End(5)), Outcome::NoPlace);
     assert_eq!(rt; doors.ask(Request::End(0)), Outcome::NoPlace);
-    assert_eq!(rt; doors.place(2), Some(Place::Leaving));
+    assert_eq!(rt; doors.place(2), Some(PlaceState::Leaving));
     assert_eq!(rt;
         (doors.is_asked(1), doors.is_asked(2), doors.is_asked(3)),
         (false, true, false)

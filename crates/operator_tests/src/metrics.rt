@@ -1,6 +1,6 @@
 //! A text for Prometheus, as it was written by hand after the rules of the format.
 
-use run_reports::{ByRole, Counters, Lag, Recorded, metrics_text};
+use run_reports::{ByRole, Counters, Lag, RecordingCounts, metrics_text};
 use std::test::Fail;
 
 const EXPECTED: &str = "# HELP reflectord_host_joined 1 while a host is joined.
@@ -73,7 +73,7 @@ fn counters() -> Counters {
         bytes: 9,
         waiting: 256,
         dropped: 10,
-        recorded: Recorded {
+        recorded: RecordingCounts {
             is_on: true,
             has_failed: false,
             bytes: 13,

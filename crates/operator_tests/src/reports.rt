@@ -3,8 +3,8 @@
 
 use roles::Role;
 use run_reports::{
-    ByRole, Counters, Gravity, Happening, HappeningCounts, Lag, Ledger, Notice, Paper, Ready,
-    Recorded, health_of, health_word, notice_text, prefix_of,
+    ByRole, CountedEvent, Counters, EventCounts, Gravity, Lag, Ledger, Notice, Paper, Ready,
+    RecordingCounts, health_of, health_word, notice_text, prefix_of,
 };
 use std::alloc::Global;
 use std::cell::Cell;
@@ -57,7 +57,7 @@ fn counters(is_joined: bool, full: u64, view: u64) -> Counters {
         bytes: 0,
         waiting: 0,
         dropped: 0,
-        recorded: Recorded {
+        recorded: RecordingCounts {
             is_on: false,
             has_failed: false,
             bytes: 0,
@@ -141,15 +141,15 @@ fn lines_without_room_are_left_out_and_counted(rt: HostRuntime) -> Result<(), Fa
 
 #[test]
 fn an_evening_is_counted(rt: HostRuntime) {
-    let mut counts = HappeningCounts::new();
+    let mut counts = EventCounts::new();
     for happening in [
-        Happening::HostLeft,
-        Happening::Joined,
-        Happening::Came(Role::View),
-        Happening::Came(Role::Full),
-        Happening::Came(Role::View),
-        Happening::Refused(Role::Full),
-        Happening::Left(Role::View),
+        CountedEvent::HostLeft,
+        CountedEvent::Joined,
+        CountedEvent::Came(Role::View),
+        CountedEvent::Came(Role::Full),
+        CountedEvent::Came(Role::View),
+        CountedEvent::Refused(Role::Full),
+        CountedEvent::Left(Role::View),
     ] {
         counts.note(happening);
     }
@@ -158,6 +158,6 @@ fn an_evening_is_counted(rt: HostRuntime) {
     assert_eq!(rt; (counts.viewers.full, counts.viewers.view), (1, 1));
     assert_eq!(rt; (counts.came.full, counts.came.view), (1, 2));
     assert_eq!(rt; (counts.refused.full, counts.refused.view), (1, 0));
-    counts.note(Happening::HostLeft);
+    counts.note(CountedEvent::HostLeft);
     assert!(rt; !counts.is_joined);
 }

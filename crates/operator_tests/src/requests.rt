@@ -1,7 +1,7 @@
 //! Tests of requests and their answers, as RFC 9110 and 9112 and the page on the port have them.
 
 use metrics_site::{Watched, answer_one};
-use run_reports::{ByRole, Counters, Lag, Recorded};
+use run_reports::{ByRole, Counters, Lag, RecordingCounts};
 use std::hash::RandomState;
 use std::test::Fail;
 use std::time::{Duration, Instant};
@@ -20,7 +20,7 @@ fn counters(is_joined: bool, view: u64) -> Counters {
         bytes: 9,
         waiting: 3,
         dropped: 14,
-        recorded: Recorded {
+        recorded: RecordingCounts {
             is_on: false,
             has_failed: false,
             bytes: 0,

@@ -63,12 +63,12 @@ fn origin_in(ip: Ip, block: &[u8]) -> Origin
 
 /// A block of addresses, and those of its bytes that have come. At least one is missing.
 #[derive(Drop)]
-pub(crate) struct Block {
+pub(crate) struct AddressBlock {
     ip: Ip,
     begun: ArrayVec<u8, LONGEST_BLOCK>,
 }
 
-impl Model for Block {
+impl Model for AddressBlock {
     ghost use Rattle.std.specs.Prelude.{ℕ, List, ◌<◌, length};
     ghost use Rattle.proxy_header.specs.Header.{block_len};
     ghost use Rattle.proxy_header.specs.declared.address.Ip.{Ip};
@@ -80,12 +80,12 @@ impl Model for Block {
     ghost invariant = { λ b. length b.begun.items < block_len b.ip };
 }
 
-impl Block {
+impl AddressBlock {
     /// A block of which no byte has come.
-    pub(crate) fn of(ip: Ip) -> Block
+    pub(crate) fn of(ip: Ip) -> AddressBlock
         ensures { result ≡ (ip, []) }
     {
-        Block {
+        AddressBlock {
             ip,
             begun: ArrayVec::new(),
         }
@@ -100,7 +100,7 @@ impl Block {
     }
 
     /// Takes the next byte of the block. After the last byte it answers where the connection came from.
-    pub(crate) fn take(mut self, byte: u8) -> Result<Block, Origin>
+    pub(crate) fn take(mut self, byte: u8) -> Result<AddressBlock, Origin>
         ensures { MatchResult result (λ more. more ≡ (self.0, self.1 ++ byte ∷ []))
             (λ origin. (length (self.1 ++ byte ∷ []) ≡ block_len self.0)
             × (origin ≡ origin_in self.0 (self.1 ++ byte ∷ []))) }

@@ -6,7 +6,7 @@ ghost use Rattle.proxy_header.specs.Header.{header, speaks, after_command, block
 ghost use Rattle.proxy_header.specs.State.{ahead, is_partial};
 ghost use Rattle.proxy_header.specs.declared.state.State.TheVariants as state;
 
-use crate::address::{Block, Ip};
+use crate::address::{AddressBlock, Ip};
 use crate::origin::{Origin, Refusal};
 use std::mem;
 
@@ -40,7 +40,7 @@ pub(crate) enum State {
     /// The same, and the first byte of the length.
     LengthEnd(Option<Ip>, u8),
     /// All before the addresses, and a part of these. After them this many bytes follow that aren't looked at.
-    Block(Block, u16),
+    Block(AddressBlock, u16),
     /// All but this many bytes, which aren't looked at.
     Rest(Origin, u16),
     /// Bytes that show why the header is refused.
@@ -114,7 +114,7 @@ fn judge_length(told: Option<Ip>, length: u16) -> State
             if length < block {
                 State::Refused(Refusal::Length)
             } else {
-                State::Block(Block::of(ip), length - block)
+                State::Block(AddressBlock::of(ip), length - block)
             }
         }
     }

@@ -35,5 +35,5 @@ pub use ran::Ran;
 pub use run::{Running, run_all};
 pub use run_traits::Written;
 pub use session_maker::SessionMaker;
-pub use stages::{BusyPlace, FreePlace, Key, LeftPlace, MetPlace, PlaceBeginning};
+pub use stages::{BusyPlace, FreePlace, LeftPlace, MetPlace, PlaceBeginning, PlaceKey};
 pub use teller::{BusyTeller, FreeTeller, TellerBeginning, TellerKey};

@@ -55,7 +55,7 @@ impl<D, S, K> PlaceBeginning<D, S, K> {
 
 /// What takes a visit apart. Only a place has one, while a viewer is there.
 #[derive(Drop)]
-pub struct Key {
+pub struct PlaceKey {
     only_here: (),
 }
 
@@ -117,7 +117,7 @@ pub struct BusyPlace<'a, 'b, D: Door, S: ScreenSource, K: InputSink, F: StopFlag
     door: D,
     // How the visit began.
     began: &'b Beginning<D::Viewer, S, K>,
-    visit_key: Key,
+    visit_key: PlaceKey,
     first: &'a PlaceBeginning<D, S, K>,
     key: PhantomData<T>,
     ghost screen: { (s : S) → (S.width s ≡ maker.now.width) × (S.height s ≡ maker.now.height) },
@@ -319,7 +319,7 @@ impl<'a, D: Door, S: ScreenSource, K: InputSink, F: StopFlag, T: Drop> MetPlace<
         began: &'b Beginning<D::Viewer, S, K>,
     ) -> (
         BusyPlace<'a, 'b, D, S, K, F, T>,
-        Visit<'b, D::Viewer, S, K, Key>,
+        Visit<'b, D::Viewer, S, K, PlaceKey>,
     )
         requires { (began.now.link.value ≡ self.link) × (began.now.source.value ≡ self.source)
             × (began.now.sink.value ≡ self.sink) × (began.now.session.value ≡ self.session) }
@@ -348,7 +348,7 @@ impl<'a, D: Door, S: ScreenSource, K: InputSink, F: StopFlag, T: Drop> MetPlace<
             stop,
             door,
             began,
-            visit_key: Key { only_here: () },
+            visit_key: PlaceKey { only_here: () },
             first,
             key,
         };
@@ -401,7 +401,7 @@ impl<'a, 'b, D: Door, S: ScreenSource, K: InputSink, F: StopFlag, T: Drop> BusyP
     /// Takes the viewer's visit, which ended with `why`, and has the door see the viewer off.
     pub fn close(
         self,
-        visit: Visit<'b, D::Viewer, S, K, Key>,
+        visit: Visit<'b, D::Viewer, S, K, PlaceKey>,
         why: Result<(), Fault>,
     ) -> FreePlace<'a, D, S, K, F, T>
         requires { IsReceived S.looks S.cuts S.may_end (F.was_set self.stop.now)

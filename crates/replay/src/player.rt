@@ -31,7 +31,7 @@ const ALL: u64 = u64::MAX;
 
 /// Why a script isn't played to its end.
 #[derive(Drop)]
-enum Stop {
+enum StopReason {
     /// The line of this number has no valid form; or it names a viewer that isn't open, or is to open one that is open
     /// already.
     Line(u64),
@@ -42,27 +42,27 @@ enum Stop {
     Memory,
 }
 
-impl From<AllocError> for Stop {
-    fn from(_refused: AllocError) -> Stop {
-        Stop::Memory
+impl From<AllocError> for StopReason {
+    fn from(_refused: AllocError) -> StopReason {
+        StopReason::Memory
     }
 }
 
-impl From<Fault> for Stop {
-    fn from(fault: Fault) -> Stop {
+impl From<Fault> for StopReason {
+    fn from(fault: Fault) -> StopReason {
         match fault {
-            Fault::Memory => Stop::Memory,
-            _ => Stop::Failed,
+            Fault::Memory => StopReason::Memory,
+            _ => StopReason::Failed,
         }
     }
 }
 
-impl From<io::Error> for Stop {
-    fn from(error: io::Error) -> Stop {
+impl From<io::Error> for StopReason {
+    fn from(error: io::Error) -> StopReason {
         if error.kind() == ErrorKind::OutOfMemory && error.raw_os_error().is_none() {
-            Stop::Memory
+            StopReason::Memory
         } else {
-            Stop::Failed
+            StopReason::Failed
         }
     }
 }
@@ -90,21 +90,21 @@ pub fn replay<R: Read + Drop, W: Write + Drop>(alloc: Global, reader: R, writer:
 }
 
 /// The exit status of a script that isn't played to its end. The number of a bad line is printed.
-fn status_of<W: Write>(alloc: Global, output: &mut W, stop: Stop) -> u8
+fn status_of<W: Write>(alloc: Global, output: &mut W, stop: StopReason) -> u8
     ensures { (2 ≤ result) × (result ≤ 4) }
 {
     match stop {
-        Stop::Line(number) => match print_bad_line(alloc, output, number) {
+        StopReason::Line(number) => match print_bad_line(alloc, output, number) {
             Ok(()) => 2,
-            Err(Stop::Memory) => 4,
+            Err(StopReason::Memory) => 4,
             Err(_) => 3,
         },
-        Stop::Failed => 3,
-        Stop::Memory => 4,
+        StopReason::Failed => 3,
+        StopReason::Memory => 4,
     }
 }
 
-fn print_bad_line<W: Write>(alloc: Global, output: &mut W, number: u64) -> Result<(), Stop> {
+fn print_bad_line<W: Write>(alloc: Global, output: &mut W, number: u64) -> Result<(), StopReason> {
     print(output, format!(in alloc; "line {number}\n")?)
 }
 
@@ -114,7 +114,7 @@ fn play_script<B: BufRead, W: Write>(
     alloc: Global,
     input: &mut B,
     output: &mut W,
-) -> Result<bool, Stop> {
+) -> Result<bool, StopReason> {
     let mut line = Vec::new(alloc);
     if !next_line(input, &mut line)? {
         return Ok(false);
@@ -137,7 +137,7 @@ fn play_lines<B: BufRead, W: Write>(
     world: &mut World,
     input: &mut B,
     output: &mut W,
-) -> Result<bool, Stop> {
+) -> Result<bool, StopReason> {
     let mut line = Vec::new(alloc);
     // Each line has at least one byte, so the reads run out long before there are this many lines.
     for number in 2..u64::MAX {
@@ -145,14 +145,14 @@ fn play_lines<B: BufRead, W: Write>(
             return Ok(world.host_fault().is_some());
         }
         if !play_line(alloc, world, output, line.as_slice())? {
-            return Err(Stop::Line(number));
+            return Err(StopReason::Line(number));
         }
     }
-    Err(Stop::Failed)
+    Err(StopReason::Failed)
 }
 
 /// Reads the next line, without its line feed, and answers whether there is one. It fails at a line that is too long.
-fn next_line<B: BufRead>(input: &mut B, line: &mut Vec<u8>) -> Result<bool, Stop> {
+fn next_line<B: BufRead>(input: &mut B, line: &mut Vec<u8>) -> Result<bool, StopReason> {
     line.clear();
     let count = input.by_ref().take(LONGEST_LINE).read_until(b'\n', line)?;
     if count == 0 {
@@ -162,30 +162,30 @@ fn next_line<B: BufRead>(input: &mut B, line: &mut Vec<u8>) -> Result<bool, Stop
         // This is the line feed.
         let _ = line.pop();
     } else if count as u64 == LONGEST_LINE {
-        return Err(Stop::Failed);
+        return Err(StopReason::Failed);
     }
     Ok(true)
 }
 
 /// Writes a line that is complete.
-fn print<W: Write>(output: &mut W, line: String) -> Result<(), Stop> {
+fn print<W: Write>(output: &mut W, line: String) -> Result<(), StopReason> {
     output.write_all(line.as_bytes())?;
     Ok(())
 }
 
 /// The width, the height and the name of the screen that the first line opens.
-fn screen_line(alloc: Global, line: &[u8]) -> Result<(u64, u64, &str), Stop>
+fn screen_line(alloc: Global, line: &[u8]) -> Result<(u64, u64, &str), StopReason>
     ensures size { IfOk result (λ screen. IsScreenSize screen.0 screen.1) }
     ensures name { IfOk result (λ screen. (1 ≤ length screen.2.now) × (length screen.2.now ≤ 255)) }
 {
     let Ok(text) = str::from_utf8(line) else {
-        return Err(Stop::Line(1));
+        return Err(StopReason::Line(1));
     };
     match Line::read(alloc, text)? {
         Some(Line::Screen(width, height, name)) if width <= LARGEST && height <= LARGEST => {
             Ok((width, height, name))
         }
-        _ => Err(Stop::Line(1)),
+        _ => Err(StopReason::Line(1)),
     }
 }
 
@@ -195,7 +195,7 @@ fn play_line<W: Write>(
     world: &mut World,
     output: &mut W,
     line: &[u8],
-) -> Result<bool, Stop> {
+) -> Result<bool, StopReason> {
     let Ok(text) = str::from_utf8(line) else {
         return Ok(false);
     };
@@ -220,10 +220,10 @@ fn play_line<W: Write>(
     }
 }
 
-fn play_one(world: &mut World, step: Step) -> Result<(), Stop> {
+fn play_one(world: &mut World, step: Step) -> Result<(), StopReason> {
     match play(world, slice::from_ref(&step)) {
         Ok(()) => Ok(()),
-        Err((_, fault)) => Err(Stop::from(fault)),
+        Err((_, fault)) => Err(StopReason::from(fault)),
     }
 }
 
@@ -233,19 +233,23 @@ fn host<W: Write>(
     world: &mut World,
     output: &mut W,
     bytes: Vec<u8>,
-) -> Result<bool, Stop> {
+) -> Result<bool, StopReason> {
     play_one(world, Step::HostBytes(bytes))?;
     put_all(alloc, world, output)
 }
 
 /// Begins the next host, unless this one is at fault, and puts the switch to black.
-fn next_host<W: Write>(alloc: Global, world: &mut World, output: &mut W) -> Result<bool, Stop> {
+fn next_host<W: Write>(
+    alloc: Global,
+    world: &mut World,
+    output: &mut W,
+) -> Result<bool, StopReason> {
     play_one(world, Step::Next)?;
     put_all(alloc, world, output)
 }
 
 /// Puts until no update is left. It prints a fault of the host, even one that was printed before.
-fn put_all<W: Write>(alloc: Global, world: &mut World, output: &mut W) -> Result<bool, Stop> {
+fn put_all<W: Write>(alloc: Global, world: &mut World, output: &mut W) -> Result<bool, StopReason> {
     for _ in 0..ROOM {
         let before = world.updates();
         play_one(world, Step::Put)?;
@@ -266,7 +270,7 @@ fn is_open(world: &World, viewer: u64) -> bool {
 }
 
 /// Has a viewer join, with its hello or after it, unless it has joined already.
-fn join(world: &mut World, viewer: u64, access: Access, greet: bool) -> Result<bool, Stop>
+fn join(world: &mut World, viewer: u64, access: Access, greet: bool) -> Result<bool, StopReason>
     requires { (1 ≤ viewer) × (viewer ≤ 64) }
 {
     if is_open(world, viewer) {
@@ -287,7 +291,7 @@ fn viewer_bytes<W: Write>(
     output: &mut W,
     viewer: u64,
     bytes: Vec<u8>,
-) -> Result<bool, Stop> {
+) -> Result<bool, StopReason> {
     if !is_open(world, viewer) {
         return Ok(false);
     }
@@ -302,7 +306,7 @@ fn viewer_bytes<W: Write>(
 }
 
 /// As long as an input of the viewer waits and there is room, sends it to the queue and reads the bytes after it.
-fn send_inputs(alloc: Global, world: &mut World, viewer: u64) -> Result<(), Stop> {
+fn send_inputs(alloc: Global, world: &mut World, viewer: u64) -> Result<(), StopReason> {
     for _ in 0..ROOM {
         if !world.is_waiting(viewer) || !world.has_room() {
             break;
@@ -314,7 +318,7 @@ fn send_inputs(alloc: Global, world: &mut World, viewer: u64) -> Result<(), Stop
 }
 
 /// Has a viewer leave. It may be opened again.
-fn leave(world: &mut World, viewer: u64) -> Result<bool, Stop> {
+fn leave(world: &mut World, viewer: u64) -> Result<bool, StopReason> {
     if !is_open(world, viewer) {
         return Ok(false);
     }
@@ -323,7 +327,7 @@ fn leave(world: &mut World, viewer: u64) -> Result<bool, Stop> {
 }
 
 /// Takes all inputs for the host, and prints what the host is sent.
-fn input<W: Write>(alloc: Global, world: &mut World, output: &mut W) -> Result<bool, Stop> {
+fn input<W: Write>(alloc: Global, world: &mut World, output: &mut W) -> Result<bool, StopReason> {
     let before = world.host_sent().len();
     for _ in 0..ROOM {
         if world.queued() == 0 {
@@ -347,7 +351,7 @@ fn dropped<W: Write>(
     world: &World,
     output: &mut W,
     viewer: u64,
-) -> Result<bool, Stop>
+) -> Result<bool, StopReason>
     requires { (1 ≤ viewer) × (viewer ≤ 64) }
 {
     let count = world.dropped(viewer);
@@ -362,7 +366,7 @@ fn turn<W: Write>(
     world: &mut World,
     output: &mut W,
     viewer: u64,
-) -> Result<bool, Stop> {
+) -> Result<bool, StopReason> {
     if !is_open(world, viewer) {
         return Ok(false);
     }
@@ -382,7 +386,7 @@ fn print_written<W: Write>(
     output: &mut W,
     viewer: u64,
     written: &[u8],
-) -> Result<(), Stop> {
+) -> Result<(), StopReason> {
     if written.is_empty() {
         return print(output, format!(in alloc; "{viewer}: -\n")?);
     }

@@ -125,14 +125,14 @@ impl Held {
     {
         match role {
             Role::View => false,
-            Role::Full => self.passes_full(message),
+            Role::Full => self.passes_message(message),
         }
     }
 
     /// Whether an input passes. It also notes what is held after that input. The press of a key passes where the key is
     /// down already or fewer than 64 keys are down, the release of a key where the key is down, and each pointer event
     /// and each text. It takes no memory.
-    pub(crate) fn takes(&mut self, input: &Input) -> bool
+    pub(crate) fn passes_input(&mut self, input: &Input) -> bool
         ensures value { result ≡ passes self.old.keys (input_in input.now) }
         ensures kept { self.new ≡ kept_after self.old (Some (input_in input.now)) }
     {
@@ -155,7 +155,7 @@ impl Held {
     }
 
     /// What `passes` answers and keeps for a viewer in full control.
-    fn passes_full(&mut self, message: &ClientMessage) -> bool
+    fn passes_message(&mut self, message: &ClientMessage) -> bool
         ensures value { result ≡ passes_if self.old.keys (input_of (message_of message.now)) }
         ensures kept { self.new ≡ kept_after self.old (input_of (message_of message.now)) }
     {

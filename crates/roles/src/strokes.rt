@@ -62,7 +62,7 @@ impl Strokes {
         if self.place != place && self.held.is_holding() {
             return false;
         }
-        let passes = self.held.takes(input);
+        let passes = self.held.passes_input(input);
         if passes {
             self.place = place;
         }

@@ -2,8 +2,8 @@
 use Rattle.std.proofs.Common.{◌≡◌, ℕ, zero, suc, Bool, true, false, List, [], ◌∷◌, set, Option, Some, None, refl, ap, sym, ◌∙◌, arith}
 use Rattle.std.specs.Prelude.{slice_get, ◌&&◌}
 use Rattle.std.proofs.lemmas.List.Elements.{All-head, All-tail}
-use Rattle.run_control.specs.declared.doors.Place.{Place}
-use Rattle.run_control.specs.declared.doors.Place.TheVariants.{Free, Taken, Leaving}
+use Rattle.run_control.specs.declared.doors.PlaceState.{PlaceState}
+use Rattle.run_control.specs.declared.doors.PlaceState.TheVariants.{Free, Taken, Leaving}
 use Rattle.run_control.specs.declared.doors.Entry.{Entry}
 use Rattle.run_control.specs.declared.doors.Entry.TheVariants.{Open, Drained, Closed}
 use Rattle.run_control.specs.declared.request.Request.TheVariants.{State, Drain, Undrain, End, Next, Call, Stop}
@@ -12,37 +12,37 @@ use Rattle.run_control.specs.Runs.{Happening, Asked, Comes, Leaves, after_happen
 
 -- ---- one place and another
 
-set_other : (ps : List Place) (i j : ℕ) (p : Place) → (j ≡ i → ⊥) → slice_get (set ps i p) j ≡ slice_get ps j
+set_other : (ps : List PlaceState) (i j : ℕ) (p : PlaceState) → (j ≡ i → ⊥) → slice_get (set ps i p) j ≡ slice_get ps j
 set_other [] i j p other = refl
 set_other (x ∷ xs) zero zero p other = absurd (other refl)
 set_other (x ∷ xs) zero (suc j) p other = refl
 set_other (x ∷ xs) (suc i) zero p other = refl
 set_other (x ∷ xs) (suc i) (suc j) p other = set_other xs i j p (λ e. other (ap suc e))
 
-set_same : (ps : List Place) (i : ℕ) (p q : Place) → slice_get ps i ≡ Some q → slice_get (set ps i p) i ≡ Some p
+set_same : (ps : List PlaceState) (i : ℕ) (p q : PlaceState) → slice_get ps i ≡ Some q → slice_get (set ps i p) i ≡ Some p
 set_same [] i p q e = absurd cc
 set_same (x ∷ xs) zero p q e = refl
 set_same (x ∷ xs) (suc i) p q e = set_same xs i p q e
 
-place_other : (s : Standing) (n k : ℕ) (p : Place) → (k ≡ n → ⊥) → place_at (with_place s n p) k ≡ place_at s k
+place_other : (s : Standing) (n k : ℕ) (p : PlaceState) → (k ≡ n → ⊥) → place_at (with_place s n p) k ≡ place_at s k
 place_other s zero k p other = refl
 place_other s (suc n) zero p other = refl
 place_other s (suc n) (suc k) p other = set_other s.places n k p (λ e. other (ap suc e))
 
-place_same : (s : Standing) (n : ℕ) (p q : Place) → place_at s n ≡ Some q → place_at (with_place s n p) n ≡ Some p
+place_same : (s : Standing) (n : ℕ) (p q : PlaceState) → place_at s n ≡ Some q → place_at (with_place s n p) n ≡ Some p
 place_same s zero p q e = absurd cc
 place_same s (suc n) p q e = set_same s.places n p q e
 
-set_none : (ps : List Place) (i : ℕ) (p : Place) → slice_get ps i ≡ None → slice_get (set ps i p) i ≡ None
+set_none : (ps : List PlaceState) (i : ℕ) (p : PlaceState) → slice_get ps i ≡ None → slice_get (set ps i p) i ≡ None
 set_none [] i p e = refl
 set_none (x ∷ xs) zero p e = absurd cc
 set_none (x ∷ xs) (suc i) p e = set_none xs i p e
 
-place_none : (s : Standing) (n : ℕ) (p : Place) → place_at s n ≡ None → place_at (with_place s n p) n ≡ None
+place_none : (s : Standing) (n : ℕ) (p : PlaceState) → place_at s n ≡ None → place_at (with_place s n p) n ≡ None
 place_none s zero p e = refl
 place_none s (suc n) p e = set_none s.places n p e
 
-entry_same : (s : Standing) (n : ℕ) (p : Place) → (with_place s n p).entry ≡ s.entry
+entry_same : (s : Standing) (n : ℕ) (p : PlaceState) → (with_place s n p).entry ≡ s.entry
 entry_same s zero p = refl
 entry_same s (suc n) p = refl
 
@@ -70,7 +70,7 @@ same_places s entry (suc n) = refl
 
 -- ---- a run that ends
 
-ended_entry : (o : Option Place) (s : Standing) (n : ℕ) → (ended o s n).entry ≡ s.entry
+ended_entry : (o : Option PlaceState) (s : Standing) (n : ℕ) → (ended o s n).entry ≡ s.entry
 ended_entry None s n = refl
 ended_entry (Some Free) s n = refl
 ended_entry (Some Leaving) s n = refl
@@ -92,7 +92,7 @@ still_closed s (Comes n) e = ap (λ (t : Standing). t.entry) (not_let_in s n e) 
 still_closed s (Leaves n) e = entry_same s n Free ∙ e
 
 -- `end` of a place leaves those without a viewer as they are.
-ended_vacant : (s : Standing) (n k : ℕ) (o : Option Place) → place_at s n ≡ o → place_at s k ≡ Some Free → place_at (ended o s n) k ≡ Some Free
+ended_vacant : (s : Standing) (n k : ℕ) (o : Option PlaceState) → place_at s n ≡ o → place_at s k ≡ Some Free → place_at (ended o s n) k ≡ Some Free
 ended_vacant s n k None e free = free
 ended_vacant s n k (Some Free) e free = free
 ended_vacant s n k (Some Leaving) e free = free
@@ -137,7 +137,7 @@ nobody_comes_in s hs =
 is_asked_by : (s t : Standing) (n : ℕ) → t.entry ≡ s.entry → place_at t n ≡ place_at s n → is_asked s n ≡ false → is_asked t n ≡ false
 is_asked_by s t n e p unasked = ap (λ (entry : Entry). asks entry (place_at t n)) e ∙ (ap (asks s.entry) p ∙ unasked)
 
-drained_asks : (entry : Entry) (o : Option Place) → asks entry o ≡ false → asks (drained entry) o ≡ false
+drained_asks : (entry : Entry) (o : Option PlaceState) → asks entry o ≡ false → asks (drained entry) o ≡ false
 drained_asks entry None unasked = refl
 drained_asks entry (Some Free) unasked = refl
 drained_asks entry (Some Leaving) unasked = unasked
@@ -145,7 +145,7 @@ drained_asks Open (Some Taken) unasked = refl
 drained_asks Drained (Some Taken) unasked = refl
 drained_asks Closed (Some Taken) unasked = unasked
 
-undrained_asks : (entry : Entry) (o : Option Place) → asks entry o ≡ false → asks (undrained entry) o ≡ false
+undrained_asks : (entry : Entry) (o : Option PlaceState) → asks entry o ≡ false → asks (undrained entry) o ≡ false
 undrained_asks entry None unasked = refl
 undrained_asks entry (Some Free) unasked = refl
 undrained_asks entry (Some Leaving) unasked = unasked
@@ -153,7 +153,7 @@ undrained_asks Open (Some Taken) unasked = refl
 undrained_asks Drained (Some Taken) unasked = refl
 undrained_asks Closed (Some Taken) unasked = unasked
 
-ended_asks : (s : Standing) (k n : ℕ) (o : Option Place) → (n ≡ k → ⊥) → is_asked s n ≡ false → is_asked (ended o s k) n ≡ false
+ended_asks : (s : Standing) (k n : ℕ) (o : Option PlaceState) → (n ≡ k → ⊥) → is_asked s n ≡ false → is_asked (ended o s k) n ≡ false
 ended_asks s k n None other unasked = unasked
 ended_asks s k n (Some Free) other unasked = unasked
 ended_asks s k n (Some Leaving) other unasked = unasked
@@ -170,7 +170,7 @@ never Open e = absurd cc
 never Drained e = absurd cc
 never Closed e = absurd cc
 
-vacant_is : (entry : Entry) (o : Option Place) → (is_open entry && is_vacant o) ≡ true → o ≡ Some Free
+vacant_is : (entry : Entry) (o : Option PlaceState) → (is_open entry && is_vacant o) ≡ true → o ≡ Some Free
 vacant_is entry None e = absurd (never entry e)
 vacant_is entry (Some Free) e = refl
 vacant_is entry (Some Taken) e = absurd (never entry e)
@@ -183,7 +183,7 @@ comes_asks s k n true e (Is is) unasked =
     let there : place_at (with_place s k Taken) n ≡ Some Taken = ap (place_at (with_place s k Taken)) is ∙ place_same s k Taken Free (vacant_is s.entry (place_at s k) e) in
     ap (λ (entry : Entry). asks entry (place_at (with_place s k Taken) n)) (entry_same s k Taken) ∙ (ap (asks s.entry) there ∙ taken_asks s.entry (is_vacant (place_at s k)) e)
 
-leaves_asks : (s : Standing) (k n : ℕ) (o : Option Place) → place_at s k ≡ o → Same n k → is_asked s n ≡ false → is_asked (with_place s k Free) n ≡ false
+leaves_asks : (s : Standing) (k n : ℕ) (o : Option PlaceState) → place_at s k ≡ o → Same n k → is_asked s n ≡ false → is_asked (with_place s k Free) n ≡ false
 leaves_asks s k n o e (Isnt other) unasked = is_asked_by s (with_place s k Free) n (entry_same s k Free) (place_other s k n Free other) unasked
 leaves_asks s k n None e (Is is) unasked =
     let there : place_at (with_place s k Free) n ≡ None = ap (place_at (with_place s k Free)) is ∙ place_none s k Free e in

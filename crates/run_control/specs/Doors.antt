@@ -1,7 +1,7 @@
 -- How the doors of a run stand, and how requests and viewers that come and leave change them.
 use Rattle.std.specs.Prelude.{ℕ, zero, suc, ◌&&◌, Bool, true, false, List, set, slice_get, count_by, Option, Some, None}
-use Rattle.run_control.specs.declared.doors.Place.{Place}
-use Rattle.run_control.specs.declared.doors.Place.TheVariants.{Free, Taken, Leaving}
+use Rattle.run_control.specs.declared.doors.PlaceState.{PlaceState}
+use Rattle.run_control.specs.declared.doors.PlaceState.TheVariants.{Free, Taken, Leaving}
 use Rattle.run_control.specs.declared.doors.Entry.{Entry}
 use Rattle.run_control.specs.declared.doors.Entry.TheVariants.{Open, Drained, Closed}
 use Rattle.run_control.specs.declared.doors.Outcome.{Outcome}
@@ -12,19 +12,19 @@ use Rattle.run_control.specs.declared.request.Request.TheVariants.{State, Drain,
 -- Whether viewers are let in, and how each place stands.
 pub record Standing : Type 0 where
   pub entry : Entry
-  pub places : List Place
+  pub places : List PlaceState
 
 -- The place of this number, if there is one. Places are counted from 1.
-abbrev pub place_at : Standing → ℕ → Option Place
+abbrev pub place_at : Standing → ℕ → Option PlaceState
 place_at s zero = None
 place_at s (suc n) = slice_get s.places n
 
 -- The place of this number, if there is one, stands so. All others stand as before.
-abbrev pub with_place : Standing → ℕ → Place → Standing
+abbrev pub with_place : Standing → ℕ → PlaceState → Standing
 with_place s zero place = s
 with_place s (suc n) place = record s { places = set s.places n place }
 
-abbrev pub is_free : Place → Bool
+abbrev pub is_free : PlaceState → Bool
 is_free Free = true
 is_free Taken = false
 is_free Leaving = false
@@ -39,14 +39,14 @@ is_open Drained = false
 is_open Closed = false
 
 -- There is such a place, and it has no viewer.
-abbrev pub is_vacant : Option Place → Bool
+abbrev pub is_vacant : Option PlaceState → Bool
 is_vacant (Some Free) = true
 is_vacant (Some Taken) = false
 is_vacant (Some Leaving) = false
 is_vacant None = false
 
 -- The place has a viewer that is asked to leave. Where the run ends, each viewer is.
-abbrev pub asks : Entry → Option Place → Bool
+abbrev pub asks : Entry → Option PlaceState → Bool
 asks entry None = false
 asks entry (Some Free) = false
 asks Open (Some Taken) = false
@@ -86,7 +86,7 @@ undrained Open = Open
 undrained Drained = Open
 undrained Closed = Closed
 
-abbrev pub ended : Option Place → Standing → ℕ → Standing
+abbrev pub ended : Option PlaceState → Standing → ℕ → Standing
 ended (Some Taken) s n = with_place s n Leaving
 ended (Some Free) s n = s
 ended (Some Leaving) s n = s
@@ -102,7 +102,7 @@ after_request s (Call role address) = s
 after_request s Stop = record s { entry = Closed }
 
 -- What a request to end a place's viewer is answered.
-abbrev pub outcome_at : Option Place → Outcome
+abbrev pub outcome_at : Option PlaceState → Outcome
 outcome_at None = outcome.NoPlace
 outcome_at (Some Free) = outcome.Nobody
 outcome_at (Some Taken) = outcome.Done

@@ -2,7 +2,7 @@
 use Rattle.std.specs.Prelude.{◌≡◌, ◌≢◌, ℕ, true, false, List, [], ◌∷◌, All, Some}
 use Rattle.std.specs.declared.net.socket_addr.SocketAddr.{SocketAddr}
 use Rattle.roles.specs.declared.role.Role.{Role}
-use Rattle.run_control.specs.declared.doors.Place.TheVariants.{Free, Taken}
+use Rattle.run_control.specs.declared.doors.PlaceState.TheVariants.{Free, Taken}
 use Rattle.run_control.specs.declared.doors.Entry.TheVariants.{Open}
 use Rattle.run_control.specs.declared.request.Request.{Request}
 use Rattle.run_control.specs.declared.request.Request.TheVariants.{End, Next, Call, Stop}

@@ -6,7 +6,7 @@ use std::marker::Model;
 
 /// How a place stands.
 #[derive(Clone, Copy, Debug, PartialEq, Eq)]
-pub enum Place {
+pub enum PlaceState {
     /// The place has no viewer.
     Free,
     /// The place has a viewer.
@@ -45,7 +45,7 @@ pub enum Outcome {
 #[derive(Drop)]
 pub struct Doors {
     entry: Entry,
-    places: Vec<Place>,
+    places: Vec<PlaceState>,
 }
 
 impl Model for Doors {
@@ -63,11 +63,11 @@ impl Doors {
     /// Open doors with this many places, all of them free. It fails where memory for the places is refused.
     pub fn new(alloc: Global, places: usize) -> Result<Doors, AllocError>
         ensures { IfOk result (λ doors.
-            doors ≡ record { entry = Entry.Open; places = replicate places Place.Free }) }
+            doors ≡ record { entry = Entry.Open; places = replicate places PlaceState.Free }) }
     {
         Ok(Doors {
             entry: Entry::Open,
-            places: vec![in alloc; Place::Free; places]?,
+            places: vec![in alloc; PlaceState::Free; places]?,
         })
     }
 
@@ -86,7 +86,7 @@ impl Doors {
     }
 
     /// How the place of this number stands, if there is one.
-    pub fn place(&self, number: u64) -> Option<Place>
+    pub fn place(&self, number: u64) -> Option<PlaceState>
         ensures { result ≡ place_at self.now number }
     {
         if number == 0 {
@@ -101,7 +101,7 @@ impl Doors {
     {
         self.places
             .iter()
-            .filter(|place| matches!(place, Place::Free))
+            .filter(|place| matches!(place, PlaceState::Free))
             .count()
     }
 
@@ -110,14 +110,14 @@ impl Doors {
         ensures { result ≡ is_asked self.now number }
     {
         match self.place(number) {
-            Some(Place::Leaving) => true,
-            Some(Place::Taken) => matches!(self.entry, Entry::Closed),
-            Some(Place::Free) | None => false,
+            Some(PlaceState::Leaving) => true,
+            Some(PlaceState::Taken) => matches!(self.entry, Entry::Closed),
+            Some(PlaceState::Free) | None => false,
         }
     }
 
     /// Sets how the place of this number stands. Where there is no such place nothing changes.
-    fn set(&mut self, number: u64, place: Place)
+    fn set(&mut self, number: u64, place: PlaceState)
         ensures { self.new ≡ with_place self.old number place }
     {
         if number == 0 {
@@ -136,8 +136,8 @@ impl Doors {
         ensures value { result ≡ is_let_in self.old number }
     {
         match (self.entry, self.place(number)) {
-            (Entry::Open, Some(Place::Free)) => {
-                self.set(number, Place::Taken);
+            (Entry::Open, Some(PlaceState::Free)) => {
+                self.set(number, PlaceState::Taken);
                 true
             }
             _ => false,
@@ -148,7 +148,7 @@ impl Doors {
     pub fn leave(&mut self, number: u64)
         ensures { self.new ≡ after_leaving self.old number }
     {
-        self.set(number, Place::Free);
+        self.set(number, PlaceState::Free);
     }
 
     /// Asks the viewer of this place to leave.
@@ -158,10 +158,10 @@ impl Doors {
     {
         match self.place(number) {
             None => Outcome::NoPlace,
-            Some(Place::Free) => Outcome::Nobody,
-            Some(Place::Leaving) => Outcome::Done,
-            Some(Place::Taken) => {
-                self.set(number, Place::Leaving);
+            Some(PlaceState::Free) => Outcome::Nobody,
+            Some(PlaceState::Leaving) => Outcome::Done,
+            Some(PlaceState::Taken) => {
+                self.set(number, PlaceState::Leaving);
                 Outcome::Done
             }
         }

@@ -9,7 +9,7 @@ mod doors;
 mod law;
 mod request;
 
-pub use doors::{Doors, Entry, Outcome, Place};
+pub use doors::{Doors, Entry, Outcome, PlaceState};
 pub use law::{
     call_changes_no_door, drained_doors_let_nobody_in, end_asks_one_place, next_changes_no_door,
     nobody_comes_in_after_a_stop, whoever_is_there_stays,

@@ -1,6 +1,6 @@
 pub mod Healths
 pub mod Lines
 pub mod Notices
-pub mod Happenings
+pub mod EventCounts
 pub mod State
 pub mod Metrics

@@ -5,7 +5,7 @@ use Rattle.std.specs.Prelude.{ℕ, Bool, true, false, List, [], ◌++◌, codes}
 use Rattle.std.specs.Fmt.{decimal}
 use Rattle.run_reports.specs.declared.counters.ByRole.{ByRole}
 use Rattle.run_reports.specs.declared.counters.Lag.{Lag}
-use Rattle.run_reports.specs.declared.counters.Recorded.{Recorded}
+use Rattle.run_reports.specs.declared.counters.RecordingCounts.{RecordingCounts}
 use Rattle.run_reports.specs.declared.counters.Counters.{Counters}
 use Rattle.run_reports.specs.declared.families.Family.{Family}
 
@@ -62,7 +62,7 @@ after_input before c =
     let a = after_one before (codes "input_waiting") (codes "gauge") (codes "Inputs of viewers that wait for the host.") c.waiting in
     after_one a (codes "input_dropped_total") (codes "counter") (codes "Inputs of viewers that were dropped, since another held a key or a button down.") c.dropped
 
-abbrev pub after_recorded : List ℕ → Recorded → List ℕ
+abbrev pub after_recorded : List ℕ → RecordingCounts → List ℕ
 after_recorded before r =
     let a = after_one before (codes "recording") (codes "gauge") (codes "1 while the run is recorded.") (one_if r.is_on) in
     let b = after_one a (codes "recording_failed") (codes "gauge") (codes "1 where the recording ended since its file took no more.") (one_if r.has_failed) in

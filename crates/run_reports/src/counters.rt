@@ -20,7 +20,7 @@ pub struct Lag {
 
 /// What is counted of a run's recording.
 #[derive(Clone, Copy, Debug)]
-pub struct Recorded {
+pub struct RecordingCounts {
     /// Whether the run is being recorded.
     pub is_on: bool,
     /// Whether the recording ended since its file took no more.
@@ -57,7 +57,7 @@ pub struct Counters {
     /// How many inputs were dropped on their way to a host.
     pub dropped: u64,
     /// What is counted of the recording: of a run that isn't recorded, nothing.
-    pub recorded: Recorded,
+    pub recorded: RecordingCounts,
     /// By how many updates the viewers are behind now.
     pub lag: Lag,
 }

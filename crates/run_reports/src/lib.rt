@@ -5,9 +5,9 @@
 #![tactic(auto)]
 
 mod counters;
+mod event_counts;
 mod families;
 mod gravity;
-mod happenings;
 mod health;
 mod json;
 mod ledger;
@@ -17,9 +17,9 @@ mod notice;
 mod report;
 mod state;
 
-pub use counters::{ByRole, Counters, Lag, Recorded};
+pub use counters::{ByRole, Counters, Lag, RecordingCounts};
+pub use event_counts::{CountedEvent, EventCounts};
 pub use gravity::{Gravity, prefix_of};
-pub use happenings::{Happening, HappeningCounts};
 pub use health::{Health, health_of, health_word};
 pub use json::state_json;
 pub use ledger::{Ledger, Paper};

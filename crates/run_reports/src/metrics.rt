@@ -4,7 +4,7 @@ ghost use Rattle.std.specs.Prelude.{◌≡◌, [], IfOk, OnOk};
 ghost use Rattle.std.specs.String.{string_bytes};
 ghost use Rattle.run_reports.specs.Metrics.{after_host, after_input, after_lag, after_places, after_recorded, after_sent, metrics_of};
 
-use crate::counters::{Counters, Lag, Recorded};
+use crate::counters::{Counters, Lag, RecordingCounts};
 use crate::families::{Family, put_by_role, put_head, put_sample, put_single};
 use std::alloc::{AllocError, Global};
 
@@ -145,7 +145,7 @@ fn put_input(text: &mut String, counters: &Counters) -> Result<(), AllocError>
 }
 
 /// Writes the numbers of the recording.
-fn put_recorded(text: &mut String, recorded: &Recorded) -> Result<(), AllocError>
+fn put_recorded(text: &mut String, recorded: &RecordingCounts) -> Result<(), AllocError>
     ensures { OnOk result
         (string_bytes text.new ≡ after_recorded (string_bytes text.old) recorded.now) }
 {

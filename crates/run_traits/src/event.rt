@@ -45,7 +45,7 @@ pub enum Parting {
 
 /// What became of a viewer that was served.
 #[derive(Clone, Copy, Debug)]
-pub struct Visit {
+pub struct VisitSummary {
     /// How serving ended.
     pub why: Result<(), Fault>,
     /// How the connection stood.
@@ -99,7 +99,7 @@ pub enum Event<'a> {
         place_id: PlaceId,
         address: Option<SocketAddr>,
         way: Way,
-        visit: Visit,
+        visit: VisitSummary,
     },
     /// A viewer was refused, since all places were taken.
     PlacesTaken {

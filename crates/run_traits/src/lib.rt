@@ -19,7 +19,7 @@ pub use alarm::{Alarm, NoAlarm};
 pub use count::{HostCount, PlaceCount, clock_millis};
 pub use door::Door;
 pub use either_door::EitherDoor;
-pub use event::{Event, Log, NoLog, Parting, PlaceId, Visit, Way};
+pub use event::{Event, Log, NoLog, Parting, PlaceId, VisitSummary, Way};
 pub use left_link::{EitherLeft, LeftLink};
 pub use ringing::Ringing;
 pub use stop::Stop;

@@ -9,10 +9,10 @@ use Rattle.run_control.specs.Doors.{is_open}
 use Rattle.run_reports.specs.declared.counters.ByRole.{ByRole}
 use Rattle.run_reports.specs.declared.counters.Counters.{Counters}
 use Rattle.run_reports.specs.declared.counters.Lag.{Lag}
-use Rattle.run_reports.specs.declared.counters.Recorded.{Recorded}
+use Rattle.run_reports.specs.declared.counters.RecordingCounts.{RecordingCounts}
 use Rattle.recorder.specs.declared.standing.Standing.{Standing}
 use Rattle.recorder.specs.declared.standing.Standing.TheVariants.{Awaited, Begun, Ended, Failed}
-use Rattle.run_reports.specs.declared.happenings.HappeningCounts.{HappeningCounts}
+use Rattle.run_reports.specs.declared.event_counts.EventCounts.{EventCounts}
 use Rattle.settings.specs.ByRole.{places_for}
 use Rattle.settings.specs.declared.values.Settings.{Settings}
 use Rattle.metrics_site.specs.declared.watched.Watched.{Watched}
@@ -56,7 +56,7 @@ pub record IsLag (numbers : List ℕ) (lag : Lag) : Type 0 where
   pub all : lag.all ≡ tenths_of ordered 10
 
 -- What is counted of a recording that stands so, whose file took so many bytes.
-abbrev pub recorded_as : Standing → ℕ → Recorded
+abbrev pub recorded_as : Standing → ℕ → RecordingCounts
 recorded_as Awaited bytes = record { is_on = false; has_failed = false; bytes = bytes }
 recorded_as (Begun since) bytes = record { is_on = true; has_failed = false; bytes = bytes }
 recorded_as Ended bytes = record { is_on = false; has_failed = false; bytes = bytes }
@@ -64,7 +64,7 @@ recorded_as (Failed kind) bytes = record { is_on = false; has_failed = true; byt
 
 -- The numbers of a run that stands so, in which that has happened. It has these places, so many inputs of viewers wait
 -- and were dropped, and that is counted of its recording.
-pub record AreCounters (run_card : RunCard) (counts : HappeningCounts) (places : ByRole) (inputs : Inputs) (recorded : Recorded) (counters : Counters) : Type 0 where
+pub record AreCounters (run_card : RunCard) (counts : EventCounts) (places : ByRole) (inputs : Inputs) (recorded : RecordingCounts) (counters : Counters) : Type 0 where
   pub is_joined : counters.is_joined ≡ is_some run_card.host
   pub silent_seconds : counters.silent_seconds ≡ seconds_from run_card.heard run_card.now
   pub joins : counters.joins ≡ counts.joins
@@ -81,6 +81,6 @@ pub record AreCounters (run_card : RunCard) (counts : HappeningCounts) (places :
   pub lag : IsLag (updates_behind run_card) counters.lag
 
 -- What a machine is answered from: these numbers, and whether an operator lets nobody in.
-pub record IsWatched (run_card : RunCard) (counts : HappeningCounts) (places : ByRole) (inputs : Inputs) (recorded : Recorded) (watched : Watched) : Type 0 where
+pub record IsWatched (run_card : RunCard) (counts : EventCounts) (places : ByRole) (inputs : Inputs) (recorded : RecordingCounts) (watched : Watched) : Type 0 where
   pub counters : AreCounters run_card counts places inputs recorded watched.counters
   pub is_drained : watched.is_drained ≡ not (is_open run_card.entry)

@@ -115,20 +115,20 @@ fn read_line(stream: &UnixStream, bytes: &mut [u8; LONGEST]) -> io::Result<Optio
 
 /// What an operator asks: of the run, or of the recording that is played.
 #[derive(Clone, Copy)]
-enum Asked {
+enum ControlRequest {
     Run(Request),
     Player(PlayRequest),
 }
 
 /// The request of the first line of these bytes, if it is one.
-fn request_in(bytes: &[u8]) -> Option<Asked> {
+fn request_in(bytes: &[u8]) -> Option<ControlRequest> {
     let Ok(text) = std::str::from_utf8(bytes) else {
         return None;
     };
     let line = text.lines().next()?;
     match Request::read(line) {
-        Some(request) => Some(Asked::Run(request)),
-        None => Some(Asked::Player(PlayRequest::read(line)?)),
+        Some(request) => Some(ControlRequest::Run(request)),
+        None => Some(ControlRequest::Player(PlayRequest::read(line)?)),
     }
 }
 
@@ -260,11 +260,11 @@ fn hear<R: Net<Stream = TcpStream> + Files + Wait + Clock>(
         None => None,
     };
     match asked {
-        Some(Asked::Run(request)) => {
+        Some(ControlRequest::Run(request)) => {
             answer(rt, reach, request, stream)?;
             Ok(matches!(request, Request::Stop))
         }
-        Some(Asked::Player(request)) => {
+        Some(ControlRequest::Player(request)) => {
             answer_player(rt, reach, request, stream)?;
             Ok(false)
         }

@@ -7,7 +7,7 @@ use connections::{RunCard, ViewerCard};
 use recorder::{Recording, Standing};
 use reflector::InputCounts;
 use roles::Role;
-use run_reports::{ByRole, Counters, HappeningCounts, Lag, Recorded};
+use run_reports::{ByRole, Counters, EventCounts, Lag, RecordingCounts};
 use settings::{Settings, places_of};
 use std::alloc::{AllocError, Global};
 use std::sync::{Arc, Wait};
@@ -40,10 +40,10 @@ pub(crate) fn inputs_of<R: Wait>(rt: &R, counts: &InputCounts) -> Inputs
 }
 
 /// What is counted of a recording that stands so, for machines.
-fn recorded_as(standing: Standing, bytes: u64) -> Recorded
+fn recorded_as(standing: Standing, bytes: u64) -> RecordingCounts
     ensures { result ≡ recorded_as standing bytes }
 {
-    Recorded {
+    RecordingCounts {
         is_on: matches!(standing, Standing::Begun(_)),
         has_failed: matches!(standing, Standing::Failed(_)),
         bytes,
@@ -51,10 +51,13 @@ fn recorded_as(standing: Standing, bytes: u64) -> Recorded
 }
 
 /// What is counted of the recording, as it stands now: of a run that isn't recorded, nothing.
-pub(crate) fn recorded_of<R: Wait>(rt: &R, recording: &Option<Arc<Recording, Global>>) -> Recorded {
+pub(crate) fn recorded_of<R: Wait>(
+    rt: &R,
+    recording: &Option<Arc<Recording, Global>>,
+) -> RecordingCounts {
     match recording {
         Some(recording) => recorded_as(recording.standing(rt), recording.bytes()),
-        None => Recorded {
+        None => RecordingCounts {
             is_on: false,
             has_failed: false,
             bytes: 0,
@@ -115,10 +118,10 @@ fn viewers_by_role(viewers: &[ViewerCard]) -> ByRole
 pub(crate) fn counters_of(
     alloc: Global,
     run_card: &RunCard,
-    counts: &HappeningCounts,
+    counts: &EventCounts,
     places: ByRole,
     inputs: Inputs,
-    recorded: Recorded,
+    recorded: RecordingCounts,
 ) -> Result<Counters, AllocError>
     ensures { IfOk result (λ counters.
         AreCounters run_card.entry.now counts.now places inputs recorded counters) }

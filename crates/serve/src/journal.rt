@@ -11,7 +11,7 @@ use notify::standard_error_has_room;
 use recorder::{EndReason, RecordingNews};
 use roles::Role;
 use run_reports::{Gravity, Ledger, Paper, prefix_of};
-use run_traits::{Event, Parting, PlaceId, Visit, Way};
+use run_traits::{Event, Parting, PlaceId, VisitSummary, Way};
 use settings::recording_path;
 use std::alloc::{AllocError, Global};
 use std::fmt;
@@ -197,7 +197,7 @@ fn viewer_out<W: fmt::Write>(
     place_id: &PlaceId,
     address: Option<SocketAddr>,
     way: Way,
-    visit: &Visit,
+    visit: &VisitSummary,
 ) -> fmt::Result {
     let why = Why {
         why: visit.why,

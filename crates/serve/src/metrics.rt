@@ -25,7 +25,7 @@ use metrics_site::{Watched, answer_one};
 use recorder::Recording;
 use reflector::InputCounts;
 use run_control::Entry;
-use run_reports::{ByRole, HappeningCounts, Recorded};
+use run_reports::{ByRole, EventCounts, RecordingCounts};
 use settings::{Settings, metrics_address_of};
 use std::alloc::{AllocError, AllocGlobal, Global};
 use std::fs::File;
@@ -129,10 +129,10 @@ where
 fn watched_of(
     alloc: Global,
     run_card: &RunCard,
-    counts: &HappeningCounts,
+    counts: &EventCounts,
     places: ByRole,
     inputs: Inputs,
-    recorded: Recorded,
+    recorded: RecordingCounts,
 ) -> Result<Watched, AllocError>
     ensures { IfOk result (λ watched.
         IsWatched run_card.entry.now counts.now places inputs recorded watched) }

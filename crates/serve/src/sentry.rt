@@ -5,7 +5,7 @@ use crate::journal::Journal;
 use crate::surroundings::Surroundings;
 use notify::Notifier;
 use roles::Role;
-use run_reports::{Happening, HappeningCounts, Notice, Ready, notice_text};
+use run_reports::{CountedEvent, EventCounts, Notice, Ready, notice_text};
 use run_traits::{Event, Log};
 use settings::{Settings, places_of};
 use std::alloc::{AllocError, Global};
@@ -16,7 +16,7 @@ use std::time::Clock;
 /// How a run stands, and where systemd hears of it.
 #[derive(Drop)]
 struct Standing {
-    counts: HappeningCounts,
+    counts: EventCounts,
     /// Where the host is, if one is joined and the system tells.
     host: Option<SocketAddr>,
     places: u64,
@@ -35,30 +35,30 @@ pub(crate) struct Sentry<R: Eprint + Clock + Wait + Drop> {
 }
 
 /// What is counted of what happens at a door or at the host, if anything is.
-fn happening_at(event: &Event<'_>) -> Option<Happening> {
+fn happening_at(event: &Event<'_>) -> Option<CountedEvent> {
     match event {
         Event::Listening { .. } | Event::OpenToAll { .. } | Event::HostTried { .. } => None,
-        Event::HostJoined { .. } => Some(Happening::Joined),
-        Event::HostOut { .. } => Some(Happening::HostLeft),
-        Event::ViewerIn { place_id, .. } => Some(Happening::Came(place_id.role)),
-        Event::ViewerOut { place_id, .. } => Some(Happening::Left(place_id.role)),
+        Event::HostJoined { .. } => Some(CountedEvent::Joined),
+        Event::HostOut { .. } => Some(CountedEvent::HostLeft),
+        Event::ViewerIn { place_id, .. } => Some(CountedEvent::Came(place_id.role)),
+        Event::ViewerOut { place_id, .. } => Some(CountedEvent::Left(place_id.role)),
         Event::PlacesTaken { role, .. }
         | Event::NoHost { role, .. }
         | Event::NoEntry { role, .. }
         | Event::NoHeader { role, .. }
-        | Event::WrongPassword { role, .. } => { Some(Happening::Refused(*role)) }
+        | Event::WrongPassword { role, .. } => { Some(CountedEvent::Refused(*role)) }
     }
 }
 
 /// What is counted of what happens in a run, if anything is.
-fn happening_of(incident: &Incident<'_>) -> Option<Happening> {
+fn happening_of(incident: &Incident<'_>) -> Option<CountedEvent> {
     match incident {
         Incident::Noted(event) => happening_at(event),
         Incident::MetricsListening(_) | Incident::HostsListening(_) => None,
         Incident::HostStopped(..)
         | Incident::HostSkipped(..)
         | Incident::RecordingSought
-        | Incident::RecordingBad(_) => Some(Happening::HostLeft),
+        | Incident::RecordingBad(_) => Some(CountedEvent::HostLeft),
         Incident::Recording(..) => None,
     }
 }
@@ -67,7 +67,7 @@ impl Standing {
     /// How a run of so many places stands before anything has happened.
     fn new(places: u64, notifier: Option<Notifier>) -> Standing {
         Standing {
-            counts: HappeningCounts::new(),
+            counts: EventCounts::new(),
             host: None,
             places,
             is_ready: false,
@@ -115,7 +115,7 @@ impl Standing {
         if let Incident::Noted(Event::HostJoined { address, .. }) = incident {
             self.host = *address;
         }
-        if !matches!(happening, Happening::Refused(_)) {
+        if !matches!(happening, CountedEvent::Refused(_)) {
             self.notify(alloc);
         }
     }
@@ -154,7 +154,7 @@ impl<R: Eprint + Clock + Wait + Drop> Sentry<R> {
     }
 
     /// What has happened until now.
-    pub(crate) fn counts(&self) -> HappeningCounts {
+    pub(crate) fn counts(&self) -> EventCounts {
         self.standing.lock(&self.rt).counts
     }
 }

@@ -1,6 +1,6 @@
 //! A link that keeps bytes, and gives them on together.
 
-use crate::kept::Kept;
+use crate::message_buffer::MessageBuffer;
 use crate::web::WebLink;
 use fault::LIMIT;
 use link::{Gave, Link, Record, Took};
@@ -22,7 +22,7 @@ enum Loss {
 #[derive(Drop)]
 pub struct GatheringLink<L: Link> {
     link: L,
-    kept: Kept,
+    kept: MessageBuffer,
     // How the link below was lost, so that kept bytes can't go out any more.
     loss: Option<Loss>,
     failures: u64,
@@ -75,7 +75,7 @@ impl<L: Link> GatheringLink<L> {
         ensures below { IfOk result (λ own. own.below ≡ L.state link) }
         ensures kept { IfOk result (λ own. own.kept ≡ []) }
     {
-        let kept = Kept::new(alloc)?;
+        let kept = MessageBuffer::new(alloc)?;
         Ok(GatheringLink {
             link,
             kept,

@@ -5,7 +5,7 @@
 
 mod code;
 mod gathering;
-mod kept;
+mod message_buffer;
 mod refusal;
 mod saying;
 mod unsent;

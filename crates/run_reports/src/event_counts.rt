@@ -1,14 +1,14 @@
 //! What is counted of a run.
 
 ghost use Rattle.std.specs.Prelude.{◌≡◌};
-ghost use Rattle.run_reports.specs.Happenings.{after, fewer, more, nothing};
+ghost use Rattle.run_reports.specs.EventCounts.{after, fewer, more, nothing};
 
 use crate::counters::ByRole;
 use roles::Role;
 
 /// What happens at the doors and at the host, as far as it is counted.
 #[derive(Clone, Copy, Debug, PartialEq, Eq)]
-pub enum Happening {
+pub enum CountedEvent {
     /// A host was joined.
     Joined,
     /// The host has ended, or wasn't joined.
@@ -23,7 +23,7 @@ pub enum Happening {
 
 /// What has happened in a run. A count that has reached the greatest number of 64 bits stays there.
 #[derive(Clone, Copy, Debug)]
-pub struct HappeningCounts {
+pub struct EventCounts {
     /// Whether a host is joined.
     pub is_joined: bool,
     /// How many hosts were joined.
@@ -70,12 +70,12 @@ fn fewer(numbers: ByRole, role: Role) -> ByRole
     }
 }
 
-impl HappeningCounts {
+impl EventCounts {
     /// The counts of a run in which nothing has happened.
-    pub fn new() -> HappeningCounts
+    pub fn new() -> EventCounts
         ensures { result ≡ nothing }
     {
-        HappeningCounts {
+        EventCounts {
             is_joined: false,
             joins: 0,
             viewers: NONE,
@@ -85,21 +85,21 @@ impl HappeningCounts {
     }
 
     /// Counts that this has happened.
-    pub fn note(&mut self, happening: Happening)
+    pub fn note(&mut self, happening: CountedEvent)
         ensures { self.new ≡ after self.old happening }
     {
         match happening {
-            Happening::Joined => {
+            CountedEvent::Joined => {
                 self.is_joined = true;
                 self.joins = self.joins.saturating_add(1);
             }
-            Happening::HostLeft => self.is_joined = false,
-            Happening::Came(role) => {
+            CountedEvent::HostLeft => self.is_joined = false,
+            CountedEvent::Came(role) => {
                 self.viewers = more(self.viewers, role);
                 self.came = more(self.came, role);
             }
-            Happening::Left(role) => self.viewers = fewer(self.viewers, role),
-            Happening::Refused(role) => self.refused = more(self.refused, role),
+            CountedEvent::Left(role) => self.viewers = fewer(self.viewers, role),
+            CountedEvent::Refused(role) => self.refused = more(self.refused, role),
         }
     }
 }

@@ -3,9 +3,9 @@ use Rattle.std.specs.Prelude.{ℕ, ◌+◌, ◌-◌, ◌^◌, min, true, false}
 use Rattle.run_reports.specs.declared.counters.ByRole.{ByRole}
 use Rattle.roles.specs.declared.role.Role.{Role}
 use Rattle.roles.specs.declared.role.Role.TheVariants.{Full, View}
-use Rattle.run_reports.specs.declared.happenings.Happening.{Happening}
-use Rattle.run_reports.specs.declared.happenings.Happening.TheVariants.{Joined, HostLeft, Came, Left, Refused}
-use Rattle.run_reports.specs.declared.happenings.HappeningCounts.{HappeningCounts}
+use Rattle.run_reports.specs.declared.event_counts.CountedEvent.{CountedEvent}
+use Rattle.run_reports.specs.declared.event_counts.CountedEvent.TheVariants.{Joined, HostLeft, Came, Left, Refused}
+use Rattle.run_reports.specs.declared.event_counts.EventCounts.{EventCounts}
 
 -- The sum, or the greatest number of 64 bits where the sum is above it.
 abbrev pub summed : ℕ → ℕ → ℕ
@@ -22,7 +22,7 @@ fewer n View = record n { view = n.view - 1 }
 abbrev pub none : ByRole
 none = record { full = 0; view = 0 }
 
-abbrev pub nothing : HappeningCounts
+abbrev pub nothing : EventCounts
 nothing = record {
   is_joined = false;
   joins = 0;
@@ -32,7 +32,7 @@ nothing = record {
 }
 
 -- What is counted once this has happened.
-abbrev pub after : HappeningCounts → Happening → HappeningCounts
+abbrev pub after : EventCounts → CountedEvent → EventCounts
 after t Joined = record t { is_joined = true; joins = summed t.joins 1 }
 after t HostLeft = record t { is_joined = false }
 after t (Came role) = record t { viewers = more t.viewers role; came = more t.came role }

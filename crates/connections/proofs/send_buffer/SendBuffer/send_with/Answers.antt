@@ -2,7 +2,7 @@ use Rattle.std.proofs.Common.{◌≡◌, ◌++◌, ℕ, length, take, drop, List
 use Rattle.std.specs.Prelude.{min}
 use Rattle.std.proofs.lemmas.Grind.{common_steps}
 use Rattle.connections.proofs.Behind.{sent_behind}
-use Rattle.connections.proofs.kept.Kept.send_with.Goals as goal
+use Rattle.connections.proofs.send_buffer.SendBuffer.send_with.Goals as goal
 
 pub returns-clause-all : goal.returns-clause-all
 returns-clause-all g c =

@@ -10,13 +10,13 @@ pub(crate) const MOST_KEPT: usize = 65_536;
 
 /// Bytes that are kept, in order, until they can go out. Once none is left, all of the room is free again.
 #[derive(Drop)]
-pub(crate) struct Kept {
+pub(crate) struct SendBuffer {
     bytes: Vec<u8>,
     // How many of them have gone out.
     gone: usize,
 }
 
-impl Model for Kept {
+impl Model for SendBuffer {
     ghost use Rattle.std.specs.Prelude.{◌≤◌, ◌-◌, drop, length, vec_capacity};
     ghost use Rattle.connections.specs.Keeping.{KeptBytes, most_kept};
 
@@ -29,17 +29,17 @@ impl Model for Kept {
         × (most_kept ≤ vec_capacity k.bytes) };
 }
 
-impl Kept {
+impl SendBuffer {
     ghost use Rattle.std.specs.Prelude.{◌≡◌, ◌+◌, ◌-◌, ◌≤◌, ◌++◌, ◌↔◌, if◌then◌else◌, [], IsTrue, nat_eq, length, take, drop, min, IfOk, OnErr};
     ghost use Rattle.connections.specs.Keeping.{most_kept};
     ghost use Rattle.connections.specs.Wires.{moved, moved_behind};
 
     /// A list without a byte. Room for `MOST_KEPT` bytes is taken here. It fails where that memory is refused.
-    pub(crate) fn new(alloc: Global) -> Result<Kept, AllocError>
+    pub(crate) fn new(alloc: Global) -> Result<SendBuffer, AllocError>
         ensures { IfOk result (λ kept. kept ≡ record { bytes = []; room = most_kept }) }
     {
         let bytes = Vec::with_capacity(alloc, MOST_KEPT)?;
-        Ok(Kept { bytes, gone: 0 })
+        Ok(SendBuffer { bytes, gone: 0 })
     }
 
     /// Whether no byte is kept.
@@ -106,7 +106,7 @@ impl Kept {
         Ok(count)
     }
 
-    /// Sends once from what is kept, followed by these bytes, in order, and answers how many of both went out. Kept
+    /// Sends once from what is kept, followed by these bytes, in order, and answers how many of both went out. SendBuffer
     /// bytes that went out are no longer kept. Where the socket fails nothing has changed.
     pub(crate) fn send_with<S: Socket>(&mut self, socket: &mut S, bytes: &[u8]) -> io::Result<usize>
         ensures ok { IfOk result (λ count. (count ≤ length self.old.bytes + length bytes.now)

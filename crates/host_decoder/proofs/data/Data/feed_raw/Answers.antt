@@ -1,7 +1,7 @@
 use Rattle.std.proofs.Common.{arith}
 use Rattle.host_decoder.proofs.Drawn.{around_anywhere}
 use Rattle.host_decoder.proofs.Within.{fed_within}
-use Rattle.host_decoder.proofs.data.Data.feed_within.Goals as goal
+use Rattle.host_decoder.proofs.data.Data.feed_raw.Goals as goal
 
 pub returns-clause-fed : goal.returns-clause-fed
 returns-clause-fed c so start paints reading h =
