@@ -39,7 +39,8 @@ fn is_answered_when_full<L: Link>(writer: &mut L) -> bool {
     false
 }
 
-/// Makes a new connection, and answers whether its two ends pass the one trial or, where `is_full`, the other.
+/// Makes a new connection, and answers whether its two ends do as one of the two tests wants: where `is_full`, the
+/// second.
 fn is_right(rt: &HostRuntime, is_full: bool) -> io::Result<bool> {
     let (far, near) = pair(rt)?;
     let (mut reader, mut writer) = HostLink::pair(near)?;
