@@ -202,7 +202,7 @@ KINDS = {
 }
 
 
-class Trial:
+class Attempt:
     """Locked ports before a host, one viewer that knows the password and stays, and others, one after another."""
 
     def __init__(self, host, program, room, table):
@@ -325,12 +325,12 @@ def passwords(program, room):
     host, table = peers.Xvnc(room), Table()
     for name, kind in KINDS.items():
         # Each has a reflector of its own, since wrong passwords of one address are counted.
-        trial = Trial(host, program, pathlib.Path(tempfile.mkdtemp(dir=room)), table)
+        attempt = Attempt(host, program, pathlib.Path(tempfile.mkdtemp(dir=room)), table)
         try:
             for role in ("full", "view"):
                 for way, password in CASES:
                     if way in kind.ways:
-                        trial.run(name, role, way, password)
+                        attempt.run(name, role, way, password)
         finally:
-            trial.end()
+            attempt.end()
     return table.is_right
