@@ -106,7 +106,7 @@ impl SendBuffer {
         Ok(count)
     }
 
-    /// Sends once from what is kept, followed by these bytes, in order, and answers how many of both went out. SendBuffer
+    /// Sends once from what is kept, followed by these bytes, in order, and answers how many of both went out. Kept
     /// bytes that went out are no longer kept. Where the socket fails nothing has changed.
     pub(crate) fn send_with<S: Socket>(&mut self, socket: &mut S, bytes: &[u8]) -> io::Result<usize>
         ensures ok { IfOk result (λ count. (count ≤ length self.old.bytes + length bytes.now)
