@@ -39,14 +39,14 @@ index_known values palette indices count k i inside lt is before =
     }
 
 -- a new colour
-pub colour_more : (values palette indices : List ℕ) (count k v : ℕ) → count < 127 → AreIndexedTo values palette indices count k → AreIndexedTo values (set palette count v) indices (count + 1) k
+pub colour_more : (values palette indices : List ℕ) (count k v : ℕ) → count < 16 → AreIndexedTo values palette indices count k → AreIndexedTo values (set palette count v) indices (count + 1) k
 colour_more values palette indices count k v room before = record {
   few = omega arith;
   known = λ j l. omega (arith, before.known j l);
   value = λ j l. get_or-set_other palette count (slice_index indices j) v 0 (λ e. omega (arith, before.known j l)) ∙ before.value j l;
 }
 
-pub index_new : (values palette indices : List ℕ) (count k v : ℕ) → k < length indices → count < 127 → count < length palette → v ≡ slice_index values k
+pub index_new : (values palette indices : List ℕ) (count k v : ℕ) → k < length indices → count < 16 → count < length palette → v ≡ slice_index values k
     → AreIndexedTo values palette indices count k → AreIndexedTo values (set palette count v) (set indices k count) (count + 1) (k + 1)
 index_new values palette indices count k v inside room within is before =
     index_known values (set palette count v) indices (count + 1) k count inside (omega arith) (get_or-set_same palette count v 0 within ∙ is)

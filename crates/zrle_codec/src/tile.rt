@@ -45,18 +45,17 @@ fn raw_len(pixels: &Cpixels, count: usize) -> usize
 /// The most colours of a palette whose indices are packed.
 const MOST_PACKED: usize = 16;
 
-/// Whether so many colours may be packed, and packed indices look shorter than their runs.
+/// Up to so many colours, indices have one or two bits. Packed rows of them repeat more often than their runs do, and
+/// are written without a look for runs.
+const FEW_COLOURS: usize = 4;
+
+/// Whether so many colours may be packed, and packed indices look shorter than their runs once they are compressed.
 fn is_packed(colours: usize, values: &[u32]) -> bool
     ensures { result ≡ true → colours ≤ 16 }
 {
-    let bits = if colours <= 2 {
-        1
-    } else if colours <= 4 {
-        2
-    } else {
-        4
-    };
-    colours <= MOST_PACKED && values.len().wrapping_mul(bits) < count_runs(values).wrapping_mul(14)
+    colours <= FEW_COLOURS
+        || colours <= MOST_PACKED
+            && values.len().wrapping_mul(4) < count_runs(values).wrapping_mul(14)
 }
 
 /// Appends a tile in the form that looks shortest.
