@@ -1,24 +1,11 @@
 //! Finds the palette of a tile.
 
-ghost use Rattle.std.specs.Prelude.{◌≡◌, ◌<◌, ◌≤◌, length, slice_index, IfSome};
+ghost use Rattle.std.specs.Prelude.{◌≡◌, ◌-◌, ◌<◌, ◌≤◌, length, slice_index, IfSome};
 ghost use Rattle.zrle_codec.specs.Indexed.{AreIndexed};
 
 /// The most colours of a palette. Tiles of more have plain runs: there a colour has the same bytes in each tile, so
 /// that repeats of another tile are found, while an index stands for another colour in each palette.
 pub const MOST_COLOURS: usize = 16;
-
-/// Where this value stands among the first four colours of a palette, if it is one of them and these differ, but for
-/// those that equal the first. No place is tested before another, so that the processor need not guess where pixels
-/// change.
-#[inline(always)]
-fn likely_index(palette: &[u32], value: u32) -> usize
-    requires { length palette.now ≡ MOST_COLOURS }
-{
-    let others = u8::from(value == palette[1])
-        | u8::from(value == palette[2]) << 1
-        | u8::from(value == palette[3]) * 3;
-    usize::from(u8::from(value != palette[0]) * (others % 4))
-}
 
 /// The place of a colour among the first ones of a palette, or how many these are where it isn't among them.
 fn find_colour(palette: &[u32], count: usize, value: u32) -> usize
@@ -34,19 +21,21 @@ fn find_colour(palette: &[u32], count: usize, value: u32) -> usize
     count
 }
 
-/// The same of a whole palette, whose first four colours are looked at together.
+/// The place of the value at `k` in the same way, where the one before has its colour at `index`.
 #[inline(always)]
-fn index_of(palette: &[u32], count: usize, value: u32) -> usize
-    requires room { length palette.now ≡ MOST_COLOURS }
+fn next_index(palette: &[u32], count: usize, values: &[u32], k: usize, index: usize) -> usize
     requires some { count ≤ length palette.now }
+    requires inside { k < length values.now }
+    requires before { 0 < k → (index < count)
+        × (slice_index palette.now index ≡ slice_index values.now (k - 1)) }
     ensures within { result ≤ count }
-    ensures found { result < count → slice_index palette.now result ≡ value }
+    ensures found { result < count → slice_index palette.now result ≡ slice_index values.now k }
 {
-    let likely = likely_index(palette, value);
-    if likely < count && palette[likely] == value {
-        return likely;
+    // Most pixels are as the one before.
+    if k > 0 && values[k] == values[k - 1] {
+        return index;
     }
-    find_colour(palette, count, value)
+    find_colour(palette, count, values[k])
 }
 
 /// Finds the colours of a tile, and the index of each value. It answers how many colours there are, or `None` where a
@@ -58,11 +47,10 @@ pub fn index_values(values: &[u32], palette: &mut [u32], indices: &mut [u8]) -> 
     ensures each { length indices.new ≡ length values.now }
     ensures indexed { IfSome result (λ count. AreIndexed values.now palette.new indices.new count) }
 {
-    // Places that no colour has yet equal the first one, so that no pixel is taken for one of them.
-    palette.fill(values.first().copied().unwrap_or(0));
     let mut count = 0;
+    let mut index = 0;
     for k in 0..values.len() {
-        let index = index_of(palette, count, values[k]);
+        index = next_index(palette, count, values, k, index);
         if index < count {
             indices[k] = index as u8;
             continue;
