@@ -133,6 +133,17 @@ pub up_to_begins : (until : Option ℕ) (some more : List Block) → (rest : Lis
 up_to_begins until [] more = (up_to until more, refl)
 up_to_begins until (b ∷ some) more = begins_if (is_later until b) b (up_to until (some ++ more)) (up_to until some) (up_to_begins until some more)
 
+-- Where one of some blocks is later, none behind them is played.
+any_step : (until : Option ℕ) (b : Block) (some more : List Block) (l : Bool) → is_later until b ≡ l → (l || list_any (is_later until) some) ≡ true → (list_any (is_later until) some ≡ true → up_to until (some ++ more) ≡ up_to until some)
+    → up_to until (b ∷ (some ++ more)) ≡ up_to until (b ∷ some)
+any_step until b some more true e any rest = up_to_none until b (some ++ more) e ∙ sym (up_to_none until b some e)
+any_step until b some more false e any rest =
+    up_to_front until b (some ++ more) e ∙ (ap (λ (bs : List Block). b ∷ bs) (rest any) ∙ sym (up_to_front until b some e))
+
+pub up_to_any : (until : Option ℕ) (some more : List Block) → list_any (is_later until) some ≡ true → up_to until (some ++ more) ≡ up_to until some
+up_to_any until [] more e = absurd (let never : false ≡ true = e in cc)
+up_to_any until (b ∷ some) more e = any_step until b some more (is_later until b) refl e (up_to_any until some more)
+
 or_right : (a b : Bool) → b ≡ true → (a || b) ≡ true
 or_right true b e = refl
 or_right false b e = e

@@ -4,3 +4,4 @@ pub mod Hearing
 pub mod Handshakes
 pub mod Playing
 pub mod Laws
+pub mod Endings

@@ -73,6 +73,14 @@ pub record IsPlayedOut (is_all : ℕ → List ℕ → Type 0) (p : Played) : Typ
   pub all : p.taken ≡ bytes_of (heard p)
   pub why : is_all p.reel.start p.reel.so_far ⊎ (list_any (is_later p.until) (blocks_in (stream_of p.reel)) ≡ true)
 
+-- It is played from the beginning of this file on. What was read are the file's first bytes, and all of them where the
+-- file has told that these are all.
+pub record IsReadOf (is_all : ℕ → List ℕ → Type 0) (p : Played) (file : List ℕ) : Type 0 where
+  pub first : p.key ≡ None
+  pub rest : List ℕ
+  pub begins : file ≡ p.reel.so_far ++ rest
+  pub all : is_all 0 p.reel.so_far → p.reel.so_far ≡ file
+
 -- Why the recording can't be played on: it can't be read on, or memory was refused; its session doesn't open as ours
 -- do; or its file failed.
 abbrev pub IsWhy : (has_failed : Type 0) → Option BadPlayback → Played → Type 0

@@ -7,6 +7,10 @@ ghost use Rattle.recording_index.specs.KeyMoments.{IsAt};
 ghost use Rattle.recording_index.specs.declared.moment.KeyMoment.{KeyMoment};
 ghost use Rattle.playback.specs.Opening.{IsOpening};
 ghost use Rattle.playback.specs.Heard.{bytes_of, greeting, heard_in, heard_of, handshake_in, said_by};
+ghost use Rattle.playback.specs.Playing.{IsPlayed, IsPlayedOut, IsReadOf, Played};
+
+use crate::pace::Pace;
+use crate::recorded::Recorded;
 
 /// A session that opens by version 3.3, 3.5, 3.7 or 3.8 with security type None is heard as one of version 3.8: what
 /// follows its opening is heard as it was said. Where it is a session of version 3.8 that offers nothing but None, as
@@ -41,4 +45,11 @@ pub fn recordings_are_heard()
         → 1 ≤ w → w ≤ 4096 → 1 ≤ h → h ≤ 4096 → length name ≤ 255
         → bytes_of heard ≡ said_to_viewer w h name 14 ++ later
         → bytes_of (handshake_in heard) ≡ said_to_viewer w h name 14 }
+{}
+
+/// Once a link has ended that plays a recording from its beginning on, all was taken of it that is heard of what its
+/// blocks say up to the time up to which it is played: neither less nor more.
+pub fn endings_are_heard<F: Recorded, P: Pace>()
+    ensures { (p : Played) (file : List ℕ) → IsPlayed P.has_come p → IsPlayedOut F.is_all p
+        → IsReadOf F.is_all p file → p.taken ≡ bytes_of (heard_in (said_by p.until file)) }
 {}

@@ -16,7 +16,7 @@ mod recorded;
 mod reel;
 
 pub use bad::{BadOpening, BadPlayback};
-pub use law::{beginnings_are_heard, openings_are_heard, recordings_are_heard};
+pub use law::{beginnings_are_heard, endings_are_heard, openings_are_heard, recordings_are_heard};
 pub use pace::Pace;
 pub use played::PlayedLink;
 pub use recorded::Recorded;

@@ -121,7 +121,7 @@ pub struct PlayedLink<F: Recorded, P: Pace> {
 }
 
 impl<F: Recorded, P: Pace> Model for PlayedLink<F, P> {
-    ghost use Rattle.std.specs.Prelude.{◌≤◌, ◌^◌};
+    ghost use Rattle.std.specs.Prelude.{◌≡◌, ◌<◌, ◌≤◌, ◌^◌, true};
     ghost use Rattle.playback.specs.Playing.{Played, IsPlaying};
 
     ghost Value = { Played };
@@ -159,7 +159,8 @@ impl<F: Recorded, P: Pace> Model for PlayedLink<F, P> {
           ended = l.ends;
           is_over = l.is_over;
           why = l.why;
-        }) };
+        })
+        × (0 < l.ends → l.is_over ≡ true) };
 }
 
 impl<F: Recorded, P: Pace> PlayedLink<F, P> {
@@ -168,7 +169,7 @@ impl<F: Recorded, P: Pace> PlayedLink<F, P> {
     ghost use Rattle.link.specs.Links.{TakesAs, with_failure, with_end};
     ghost use Rattle.recording.specs.Progress.{ahead};
     ghost use Rattle.recording.specs.declared.bad.BadRecording.{BadRecording};
-    ghost use Rattle.playback.specs.Playing.{IsPlayed, IsWhy, IsGoing, IsReady, IsAtKey, IsDue, IsLate, HasCome, state_of};
+    ghost use Rattle.playback.specs.Playing.{IsPlayed, IsPlayedOut, IsWhy, IsGoing, IsReady, IsAtKey, IsDue, IsLate, HasCome, state_of};
     ghost use Rattle.link.specs.declared.link.Took.TheVariants as Took;
     ghost use Rattle.playback.specs.declared.played.Next.TheVariants as next;
 
@@ -256,10 +257,11 @@ impl<F: Recorded, P: Pace> PlayedLink<F, P> {
     }
 
     /// It does nothing. Its clauses say what is true at every moment. What was taken is a beginning of what is heard of
-    /// all that was read of the file, and the time of each byte of it had come. And if the recording can't be played
-    /// on, there is the reason for it.
+    /// all that was read of the file, and the time of each byte of it had come. Once the link has ended, all of that was
+    /// taken, and nothing more is played. And if the recording can't be played on, there is the reason for it.
     pub fn plays(&self)
         ensures played { IsPlayed P.has_come self.now }
+        ensures out { 0 < self.now.ended → IsPlayedOut F.is_all self.now }
         ensures why { IsWhy F.has_failed self.now.why self.now }
     {
         let _ = &self.used;
@@ -288,6 +290,7 @@ impl<F: Recorded, P: Pace> PlayedLink<F, P> {
     }
 
     fn end(&mut self)
+        requires over { self.old.is_over ≡ true }
         ensures state { state_of self.new ≡ with_end (state_of self.old) }
         ensures same { self.new ≡ record self.old { ended = self.new.ended } }
     {

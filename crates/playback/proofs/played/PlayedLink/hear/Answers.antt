@@ -31,6 +31,7 @@ invariant_of-self g c =
       c.self.invariant.2,
       opens g.P.Pace.has_come g.F.Recorded.is_all g.F.Recorded.has_failed old c.feed.new.self block start c.in-Ok.count c.self.invariant.3 going closed goes
           (sym here) is.0 is.1 c.min-start.ensures,
+      c.self.invariant.4,
     )
 
 pub invariant_of-self-in-Err : goal.invariant_of-self-in-Err
@@ -47,4 +48,4 @@ invariant_of-self-in-Err g c =
     let refused : IsNoOpening why (l.opening.begun ++ drop start block.said) = subst (λ (xs : List ℕ). IsNoOpening why (l.opening.begun ++ xs)) c.split_at.ensures.back c.in-Err.ensures.refused in
     let same : c.feed.new.self ≡ l.opening = c.in-Err.ensures.same in
     let all = refuses g.P.Pace.has_come g.F.Recorded.is_all g.F.Recorded.has_failed old why block start c.self.invariant.3 closed refused (sym here) is.0 c.min-start.ensures in
-    (c.self.invariant.0, c.self.invariant.1, c.self.invariant.2, refuses_same g.P.Pace.has_come g.F.Recorded.is_all g.F.Recorded.has_failed old c.feed.new.self why same all)
+    (c.self.invariant.0, c.self.invariant.1, c.self.invariant.2, refuses_same g.P.Pace.has_come g.F.Recorded.is_all g.F.Recorded.has_failed old c.feed.new.self why same all, c.self.invariant.4)

@@ -20,6 +20,7 @@ invariant_of-self g c =
       c.self.invariant.2,
       read_on g.P.Pace.has_come g.F.Recorded.is_all g.F.Recorded.has_failed old c.read_on.new.self (not c.in-Ok.more) l.why c.self.invariant.3 none ready c.in-Ok.ensures.on (λ e. c.in-Ok.ensures.end (not_true c.in-Ok.more e))
           (subst (λ (w : Option BadPlayback). IsWhy g.F.Recorded.has_failed w (record old { reel = c.read_on.new.self; used = 0; is_over = not c.in-Ok.more; why = l.why })) (sym going.fine) tt),
+      λ ended. absurd (let never : true ≡ false = sym (c.self.invariant.4 ended) ∙ going.on in cc),
     )
 
 pub invariant_of-self-in-Err : goal.invariant_of-self-in-Err
@@ -34,4 +35,5 @@ invariant_of-self-in-Err g c =
       c.self.invariant.2,
       read_on g.P.Pace.has_come g.F.Recorded.is_all g.F.Recorded.has_failed old c.read_on.new.self l.is_over (Some c.in-Err.why) c.self.invariant.3 none ready c.in-Err.ensures.on (λ e. absurd (let never : true ≡ false = sym e ∙ going.on in cc))
           (no_more g.F.Recorded.has_failed c.in-Err.why (record old { reel = c.read_on.new.self; used = 0; is_over = l.is_over; why = Some c.in-Err.why }) c.in-Err.ensures.err),
+      c.self.invariant.4,
     )

@@ -34,4 +34,5 @@ invariant_of-self g c =
       says g.P.Pace.has_come g.F.Recorded.is_all g.F.Recorded.has_failed old c.fitting-count.new.hello block start count c.note.new.self.bytes c.self.invariant.3 going open_now greeted
           (sym here) is.0 is.1 c.min-start.ensures said
           (λ e played time has. subst (λ (xs : List ℕ). HasHandshake c.fitting-count.new.hello (played ++ stamp time xs)) bytes (c.fitting-count.ensures.front (key ∙ e) played time has)),
+      c.self.invariant.4,
     )

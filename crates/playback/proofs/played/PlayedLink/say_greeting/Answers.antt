@@ -29,4 +29,5 @@ invariant_of-self g c =
       omega (arith, c.copy_front-copied.ensures.count, len, fits),
       greets g.P.Pace.has_come g.F.Recorded.is_all g.F.Recorded.has_failed old c.fitting-count.new.hello count c.note.new.self.bytes c.self.invariant.3 going open_now some
           (λ e played time has. subst (λ (xs : List ℕ). HasHandshake c.fitting-count.new.hello (played ++ stamp time xs)) bytes (c.fitting-count.ensures.front (key ∙ e) played time has)) said,
+      c.self.invariant.4,
     )

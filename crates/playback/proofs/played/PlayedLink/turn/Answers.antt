@@ -18,7 +18,7 @@ invariant_of-self g c =
     let whole : whole_of (ahead l.reel.reader) ≡ Some (Ok block) = sym here in
     let long : length block.said ≤ l.used = c.if-self-block.false in
     let early : is_later l.until block ≡ false = sym (c.is_later.ensures block.said) ∙ c.if-is_later.false in
-    (c.self.invariant.0, c.self.invariant.1, c.self.invariant.2, turns g.P.Pace.has_come g.F.Recorded.is_all g.F.Recorded.has_failed old c.go_on.new.self block c.self.invariant.3 going whole long early c.go_on.ensures.same c.go_on.ensures.reader)
+    (c.self.invariant.0, c.self.invariant.1, c.self.invariant.2, turns g.P.Pace.has_come g.F.Recorded.is_all g.F.Recorded.has_failed old c.go_on.new.self block c.self.invariant.3 going whole long early c.go_on.ensures.same c.go_on.ensures.reader, c.self.invariant.4)
 
 pub returns-clause-ready : goal.returns-clause-ready
 returns-clause-ready g c =
