@@ -1,4 +1,4 @@
-"""A VNC host that paints as fast as it is asked and notes what it shows, and a viewer that counts what it is shown."""
+"""VNC hosts that paint as fast as they are asked and note what they show, and viewers that look at it."""
 
 import contextlib
 import itertools
@@ -180,6 +180,28 @@ class Host:
         self.listener.close()
 
 
+class PacedHost(Host):
+    """A host that paints as many updates as it is let, as fast as it is asked for them, and then waits to be let more."""
+
+    def __init__(self, *words, **more):
+        self.left = threading.Semaphore(0)
+        super().__init__(*words, **more)
+
+    def let(self, count):
+        if count:
+            self.left.release(count)
+
+    def answer(self, incremental):
+        if incremental:
+            self.left.acquire()
+        super().answer(incremental)
+
+    def rest(self):
+        self.is_painting = False
+        self.let(1)
+        super().rest()
+
+
 class Viewer:
     """A viewer that asks for Raw, looks on, and counts its updates."""
 
@@ -206,7 +228,32 @@ class Viewer:
                 while (kind := stream.read(1)[0]) != 0:
                     if kind == 3:
                         stream.read(struct.unpack(">xxxI", stream.read(7))[0])
-                for _ in range(struct.unpack(">xH", stream.read(3))[0]):
-                    _, _, w, h, _ = struct.unpack(">4Hi", stream.read(12))
-                    stream.read(4 * w * h)
+                count = struct.unpack(">xH", stream.read(3))[0]
+                self.show([self.rectangle(stream) for _ in range(count)])
                 self.updates += 1
+
+    def rectangle(self, stream):
+        *place, _ = struct.unpack(">4Hi", stream.read(12))
+        return place, stream.read(4 * place[2] * place[3])
+
+    def show(self, rectangles):
+        """What is done with those of an update."""
+
+
+class Keeper(Viewer):
+    """A viewer that keeps its whole picture, as it is after its last update."""
+
+    def __init__(self, port):
+        self.screen, self.lock = None, threading.Lock()
+        super().__init__(port)
+
+    def show(self, rectangles):
+        with self.lock:
+            self.screen = self.screen or recorded.Screen(*self.size)
+            for place, data in rectangles:
+                self.screen.put(*place, data)
+
+    def picture(self):
+        """A copy of its picture."""
+        with self.lock:
+            return self.screen and self.screen.copy()

@@ -87,6 +87,8 @@ class Screen:
     def __init__(self, width, height):
         self.width, self.height = width, height
         self.pixels = bytearray(UNPAINTED * (width * height))
+        # How high the highest subrectangle of RRE or Hextile was.
+        self.highest = 0
 
     def put(self, x, y, w, h, data, at=0):
         stride, count = 4 * self.width, 4 * w
@@ -109,6 +111,17 @@ class Screen:
 
     def sum(self):
         return zlib.crc32(self.pixels)
+
+    def copy(self):
+        other = Screen(0, 0)
+        other.width, other.height, other.pixels = self.width, self.height, bytearray(self.pixels)
+        return other
+
+    def unlike(self, other):
+        """How many pixels differ, of two of one size."""
+        if self.pixels == other.pixels:
+            return 0
+        return sum(self.pixels[at : at + 4] != other.pixels[at : at + 4] for at in range(0, len(self.pixels), 4))
 
 
 def end_of(said, at, count):
@@ -133,6 +146,7 @@ def put_rre(said, at, screen, x, y, w, h):
         if left + sw > w or top + sh > h:
             raise Wrong("a subrectangle lies outside its rectangle")
         screen.fill(x + left, y + top, sw, sh, pixel)
+        screen.highest = max(screen.highest, sh)
     return end
 
 
@@ -171,6 +185,7 @@ def put_tile(said, at, screen, x, y, w, h, colours):
         if left + sw > w or top + sh > h:
             raise Wrong("a subrectangle lies outside its tile")
         screen.fill(x + left, y + top, sw, sh, parts[part : part + 4] if size == 6 else colours[1])
+        screen.highest = max(screen.highest, sh)
     return end
 
 
