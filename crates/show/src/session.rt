@@ -1,10 +1,12 @@
 //! The file of PNG that shows where a session ends.
 
-ghost use Rattle.std.specs.Prelude.{IfOk, IfErr};
-ghost use Rattle.show.specs.Shown.{HasNoPng, ShowsAsPng};
+ghost use Rattle.std.specs.Prelude.{◌≡◌, IfOk, IfErr};
+ghost use Rattle.playback.specs.Playing.{state_of};
+ghost use Rattle.show.specs.Shown.{HasNoPng, ShowsAsPng, ShowsRecording};
 
 use fault::Fault;
 use link::Link;
+use playback::{Pace, PlayedLink, Recorded};
 use png::png_of;
 use recorded_picture::picture_of;
 use std::alloc::Global;
@@ -23,5 +25,22 @@ pub fn png_of_session<L: Link, R: Wait>(
     let picture = picture_of(rt, alloc, link)?;
     let (width, height) = picture.size();
     let file = png_of(alloc, width, height, picture.colours())?;
+    Ok(file)
+}
+
+/// A file of PNG that shows what a recording shows at the time up to which this link plays it, or at its end. The link
+/// hasn't ended yet. It fails as `recorded_picture::picture_of` does.
+pub fn png_of_recording<F: Recorded, P: Pace, R: Wait>(
+    rt: &R,
+    alloc: Global,
+    link: &mut PlayedLink<F, P>,
+) -> Result<Vec<u8>, Fault>
+    requires { link.old.ended ≡ 0 }
+    ensures ok { IfOk result (λ file.
+        ShowsRecording P.has_come F.is_all link.old link.new file.items) }
+    ensures err { IfErr result (λ fault. HasNoPng fault (state_of link.old) (state_of link.new)) }
+{
+    let file = png_of_session(rt, alloc, link)?;
+    link.plays();
     Ok(file)
 }

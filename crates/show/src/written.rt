@@ -5,7 +5,7 @@ ghost use Rattle.std.specs.Prelude.{◌<◌};
 use crate::at_once::AtOnce;
 use crate::error::ShowError;
 use crate::file::RecordingFile;
-use crate::session::png_of_session;
+use crate::session::png_of_recording;
 use fault::Fault;
 use playback::{BadPlayback, PlayedLink};
 use std::alloc::Global;
@@ -44,7 +44,7 @@ fn shot_at<R: Files + Wait>(
 ) -> Result<Shot, ShowError> {
     let opened = fs::open(rt, recording).map_err(ShowError::Input)?;
     let mut link = PlayedLink::new(alloc, RecordingFile::new(opened), AtOnce, at)?;
-    let file = png_of_session(rt, alloc, &mut link);
+    let file = png_of_recording(rt, alloc, &mut link);
     let time = link.time();
     let file = file.map_err(|fault| reason(fault, link.why()));
     Ok(Shot { file, time })
