@@ -1,0 +1,4 @@
+pub mod Ranges
+pub mod Keeping
+pub mod Lacking
+pub mod Same
