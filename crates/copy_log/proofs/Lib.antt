@@ -2,3 +2,6 @@ pub mod Ranges
 pub mod Keeping
 pub mod Lacking
 pub mod Same
+pub mod Marks
+pub mod Adding
+pub mod Vectors

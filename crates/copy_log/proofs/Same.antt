@@ -86,7 +86,7 @@ update_as w h area p copies touched u b =
     let plain : IsSamePassed w h (passed_after_paints w h area behind b.others) (lacking_all behind (some_touch w h b.others)) = plain_paints w h area behind b.others b.no_copies in
     rw all (record { copies = plain.copies; lacks = λ t lt. ap (λ c. behind.lacks t || c) (sym (b.tiles t lt)) ∙ plain.lacks t lt })
 
-same_lacking_all : (w h : ℕ) (p q : Passed) (touched : ℕ → Bool) → IsSamePassed w h p q → IsSamePassed w h (lacking_all p touched) (lacking_all q touched)
+pub same_lacking_all : (w h : ℕ) (p q : Passed) (touched : ℕ → Bool) → IsSamePassed w h p q → IsSamePassed w h (lacking_all p touched) (lacking_all q touched)
 same_lacking_all w h p q touched s = record { copies = s.copies; lacks = λ t lt. ap (λ b. b || touched t) (s.lacks t lt) }
 
 pub same_is_passed : SameIsPassed

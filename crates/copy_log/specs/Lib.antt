@@ -1,2 +1,3 @@
 pub mod Passed
 pub mod KeepsUp
+pub mod Notes
