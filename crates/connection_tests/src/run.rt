@@ -11,7 +11,7 @@ use arrayvec::ArrayVec;
 use fault::Fault;
 use host_turns::{HostEnds, NoHosts, RunScreen};
 use joined_runs::RectForm;
-use reflector::{InputCounts, Running, run_all};
+use reflector::{InputCounts, RunHosts, RunPlaces, RunShared, Running, run_all};
 use rfb_wire::Joined;
 use roles::Role;
 use run_traits::{Door, NoAlarm};
@@ -24,31 +24,35 @@ use std::thread::Threads;
 use std::time::Clock;
 use viewer_session::AnswerForm;
 
-/// The two ends of the host's link: the one that is read, and the one that is told.
-fn host_ends(alloc: Global, board: &Arc<Board, Global>) -> Result<(Wire, Wire), Fault>
-    ensures { IfOk result (λ ends. (ends.0 ≡ unused) × (ends.1 ≡ unused)) }
+/// The one host of a run, and no other after it.
+fn one_host(alloc: Global, board: &Arc<Board, Global>) -> Result<RunHosts<Wire, NoHosts>, Fault>
+    ensures ends { IfOk result (λ hosts.
+        (hosts.first.reader ≡ unused) × (hosts.first.writer ≡ unused)) }
+    ensures size { IfOk result (λ hosts. (hosts.joined.w ≡ WIDTH) × (hosts.joined.h ≡ HEIGHT)) }
 {
-    let reader = Wire::new(alloc, Peer::HostRead, UPDATE, board)?;
-    let writer = Wire::new(alloc, Peer::HostTold, b"", board)?;
-    Ok((reader, writer))
+    let mut name = ArrayVec::new();
+    name.push(b'T');
+    Ok(RunHosts {
+        first: HostEnds {
+            reader: Wire::new(alloc, Peer::HostRead, UPDATE, board)?,
+            writer: Wire::new(alloc, Peer::HostTold, b"", board)?,
+            has_called: false,
+        },
+        joined: Joined {
+            w: WIDTH,
+            h: HEIGHT,
+            name,
+        },
+        further: NoHosts,
+    })
 }
 
 /// What counts a run's input, and the alarms of everyone and of the writer, which nobody hears.
-#[derive(Drop)]
-struct Means {
-    input: Arc<InputCounts, Global>,
-    everyone: Arc<NoAlarm, Global>,
-    alarm: Arc<NoAlarm, Global>,
-}
-
-fn make_means(alloc: Global) -> Result<Means, AllocError> {
-    let input = Arc::new(alloc, InputCounts::new())?;
-    let everyone = Arc::new(alloc, NoAlarm)?;
-    let alarm = Arc::new(alloc, NoAlarm)?;
-    Ok(Means {
-        input,
-        everyone,
-        alarm,
+fn make_shared(alloc: Global) -> Result<RunShared<NoAlarm, NoAlarm>, AllocError> {
+    Ok(RunShared {
+        everyone: Arc::new(alloc, NoAlarm)?,
+        writer: Arc::new(alloc, NoAlarm)?,
+        input: Arc::new(alloc, InputCounts::new())?,
     })
 }
 
@@ -68,16 +72,15 @@ where
     requires screen { (WIDTH ≡ J.width) × (HEIGHT ≡ J.height) }
     requires role { D.is_for door Full }
 {
-    let mut name = ArrayVec::new();
-    name.push(b'T');
     let mut doors = Vec::new(alloc);
     doors.push((Role::Full, door))?;
-    let (reader, writer) = host_ends(alloc, board)?;
-    let Means {
-        input,
-        everyone,
-        alarm,
-    } = make_means(alloc)?;
+    let places = RunPlaces {
+        doors,
+        form: AnswerForm {
+            runs: RectForm::Joined,
+            zrle: false,
+        },
+    };
     let room = RunScreen {
         alloc,
         width: WIDTH,
@@ -88,25 +91,9 @@ where
         rt,
         room,
         history,
-        HostEnds {
-            reader,
-            writer,
-            has_called: false,
-        },
-        Joined {
-            w: WIDTH,
-            h: HEIGHT,
-            name,
-        },
-        NoHosts,
-        doors,
-        AnswerForm {
-            runs: RectForm::Joined,
-            zrle: false,
-        },
-        everyone,
-        alarm,
-        input,
+        one_host(alloc, board)?,
+        places,
+        make_shared(alloc)?,
     )?;
     let Running {
         ran: _,

@@ -15,5 +15,5 @@ pub use ending::Ending;
 pub use handover::{Handover, NumberedLink, SealedEnd};
 pub use host::RunScreen;
 pub use hosts::read_all;
-pub use stages::{EndedRun, IdleRun, JoinedRun, MetRun, RunBeginning};
+pub use stages::{EndedRun, FirstHost, IdleRun, JoinedRun, MetRun, RunBeginning};
 pub use supply::{HostEnds, Hosts, NoHosts};

@@ -59,6 +59,16 @@ impl<L, H, P> RunBeginning<L, H, P> {
     }
 }
 
+/// The first host of a run, which was joined: the end of its connection that is read, whether it has called, what reads
+/// it, and room for its link beside those of the hosts after it.
+#[derive(Drop)]
+pub struct FirstHost<L: Link> {
+    pub reader: L,
+    pub has_called: bool,
+    pub screen: HostScreen,
+    pub links: Vec<L>,
+}
+
 /// A run whose host is joined and isn't read yet. It has the end of the host's connection that is read, what reads it,
 /// where further hosts come from, the links of the hosts before, and the publisher to which updates are put.
 ///
@@ -150,32 +160,35 @@ pub struct EndedRun<'a, L: Link, H: Hosts<L>, P: Puts, W: Alarm + Drop, T: Drop>
 }
 
 impl<'a, L: Link, H: Hosts<L>, P: Puts, W: Alarm + Drop, T: Drop> JoinedRun<'a, L, H, P, W, T> {
-    /// A run that begins, with a first host that was joined over this link, and has called or not. There is room for
-    /// its link.
+    /// A run that begins with this first host, for whose link there is room. Further hosts come from `hosts`.
     pub fn new(
         first: &'a RunBeginning<L, H, P>,
         run_screen: &'a RunScreen,
         handover: &'a Handover<L, W>,
-        has_called: bool,
-        reader: L,
-        screen: HostScreen,
+        host: FirstHost<L>,
         hosts: H,
-        links: Vec<L>,
         publisher: P,
     ) -> Self
-        requires first { (first.now.has_called.value ≡ has_called)
-            × (first.now.reader.value ≡ reader) × (first.now.hosts.value ≡ hosts)
+        requires first { (first.now.has_called.value ≡ host.has_called)
+            × (first.now.reader.value ≡ host.reader) × (first.now.hosts.value ≡ hosts)
             × (first.now.publisher.value ≡ publisher) }
-        requires room { (links.items ≡ []) × (0 < vec_capacity links) }
-        requires size { (screen.decoder.width ≡ run_screen.now.width)
-            × (screen.decoder.height ≡ run_screen.now.height) }
-        requires pair { IsFor screen.decoder screen.painter }
+        requires room { (host.links.items ≡ []) × (0 < vec_capacity host.links) }
+        requires size { (host.screen.decoder.width ≡ run_screen.now.width)
+            × (host.screen.decoder.height ≡ run_screen.now.height) }
+        requires pair { IsFor host.screen.decoder host.screen.painter }
         requires publisher { HasSize P.width P.height publisher run_screen.now.width
             run_screen.now.height }
-        ensures parts { (result.has_called ≡ has_called) × (result.reader ≡ reader)
-            × (result.screen ≡ screen) × (result.links ≡ links) × (result.publisher ≡ publisher) }
+        ensures parts { (result.has_called ≡ host.has_called) × (result.reader ≡ host.reader)
+            × (result.screen ≡ host.screen) × (result.links ≡ host.links)
+            × (result.publisher ≡ publisher) }
         ensures lent { (result.first ≡ first.entry) × (result.run_screen ≡ run_screen.entry) }
     {
+        let FirstHost {
+            reader,
+            has_called,
+            screen,
+            links,
+        } = host;
         JoinedRun {
             run_screen,
             handover,

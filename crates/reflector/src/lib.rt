@@ -8,6 +8,7 @@
 
 mod context;
 mod counted;
+mod given;
 mod handover_taker;
 mod input_counts;
 mod join;
@@ -23,6 +24,7 @@ mod stages;
 mod teller;
 mod writer;
 
+pub use given::{RunHosts, RunPlaces, RunShared};
 pub use handover_taker::CameLink;
 pub use input_counts::InputCounts;
 pub use join::join_place;

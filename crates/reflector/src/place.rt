@@ -36,7 +36,7 @@ const STACK: usize = 262_144;
 /// How long a place rests where the relay is full, in milliseconds.
 const REST_MILLIS: u64 = 1;
 
-/// What a place gives back.
+/// What a place has while no viewer is there, and gives back.
 #[derive(Drop)]
 pub struct Place<S, D, R: Wait + Drop> {
     /// Where its viewers came from.
@@ -158,43 +158,50 @@ fn serve_from<
 >(
     rt: &R,
     maker: &SessionMaker,
-    door: D,
-    source: S,
-    sender: Sender<R>,
+    place: Place<S, D, R>,
     alarm: W,
     stop: &F,
     rest: &Z,
-) -> (D, Sender<R>, S)
+) -> Place<S, D, R>
     requires screen { (s : S) → (S.width s ≡ maker.now.width) × (S.height s ≡ maker.now.height) }
-    requires named { (relay_of sender ≡ T.relay) × (place_of sender ≡ T.place) }
-    ensures named { (relay_of result.1 ≡ T.relay) × (place_of result.1 ≡ T.place) }
+    requires named { (relay_of place.sender ≡ T.relay) × (place_of place.sender ≡ T.place) }
+    ensures named { (relay_of result.sender ≡ T.relay) × (place_of result.sender ≡ T.place) }
     ensures visits { HasVisits D.lets_in D.sees_off
         (λ source_old source_new sent_old sent_new why left.
         IsReceived S.looks S.cuts S.may_end (F.was_set stop.now)
         (λ fault. (fault ≡ QueueFull) ⊎ (fault ≡ NumbersOut)) S.known
         (setup_of maker.now.width maker.now.height maker.now.name.items maker.now.form
         maker.now.host) maker.now.role source_old source_new sent_old sent_new why left)
-        (at door source (inputs_of sender)) (at result.0 result.2 (inputs_of result.1)) }
+        (at place.door place.watcher (inputs_of place.sender))
+        (at result.door result.watcher (inputs_of result.sender)) }
 {
+    let Place {
+        door,
+        watcher,
+        sender,
+    } = place;
     let inner: NamedSender<T, R> = NamedSender::new(sender);
     let sink = Ringing { inner, alarm };
-    let first = PlaceBeginning::of(&door, &source, &sink);
-    let place = FreePlace::new(&first, maker, stop, door, source, sink);
+    let first = PlaceBeginning::of(&door, &watcher, &sink);
+    let place = FreePlace::new(&first, maker, stop, door, watcher, sink);
     let left = serve_viewers(rt, place, rest);
-    let (door, source, sink) = left.into_parts(());
+    let (door, watcher, sink) = left.into_parts(());
     let Ringing { inner, alarm: _ } = sink;
-    (door, inner.into_sender(), source)
+    Place {
+        door,
+        watcher,
+        sender: inner.into_sender(),
+    }
 }
 
 /// The same where viewers only look on: their place has no sender, so that none of their input can go on.
-fn show_viewers<S: ScreenSource, D: Door, F: StopFlag, Z: Rest, Q: Wait + Drop, R: Wait>(
+fn show_viewers<S: ScreenSource, D: Door, F: StopFlag, R: Wait + Clock + Copy + Drop>(
     rt: &R,
     maker: &SessionMaker,
     door: D,
     source: S,
-    sink: NoSender<Q>,
+    sink: NoSender<R>,
     stop: &F,
-    rest: &Z,
 ) -> (D, S)
     requires screen { (s : S) → (S.width s ≡ maker.now.width) × (S.height s ≡ maker.now.height) }
     requires role { maker.now.role ≡ View }
@@ -208,7 +215,7 @@ fn show_viewers<S: ScreenSource, D: Door, F: StopFlag, Z: Rest, Q: Wait + Drop, 
 {
     let first = PlaceBeginning::of(&door, &source, &sink);
     let place = FreePlace::new(&first, maker, stop, door, source, sink);
-    let left = serve_viewers(rt, place, rest);
+    let left = serve_viewers(rt, place, &Nap { clock: *rt });
     let (door, source, _) = left.into_parts(());
     (door, source)
 }
@@ -217,31 +224,34 @@ fn show_viewers<S: ScreenSource, D: Door, F: StopFlag, Z: Rest, Q: Wait + Drop, 
 fn keep<S: ScreenSource, D: Door, W: Alarm + Drop, F: StopFlag, R: Wait + Clock + Copy + Drop>(
     rt: R,
     maker: SessionMaker,
-    door: D,
-    watcher: S,
-    sender: Sender<R>,
+    place: Place<S, D, R>,
     alarm: W,
     stop: &F,
 ) -> Place<S, D, R>
     requires { (s : S) → (S.width s ≡ maker.width) × (S.height s ≡ maker.height) }
-    ensures sender { IsSameSender sender result.sender }
+    ensures sender { IsSameSender place.sender result.sender }
     ensures visits { HasVisits D.lets_in D.sees_off
         (λ source_old source_new sent_old sent_new why left.
         IsReceived S.looks S.cuts S.may_end (F.was_set stop.now)
         (λ fault. (fault ≡ QueueFull) ⊎ (fault ≡ NumbersOut)) S.known
         (setup_of maker.width maker.height maker.name.items maker.form maker.host) maker.role
-        source_old source_new sent_old sent_new why left) (at door watcher (inputs_of sender))
+        source_old source_new sent_old sent_new why left)
+        (at place.door place.watcher (inputs_of place.sender))
         (at result.door result.watcher (inputs_of result.sender)) }
     ensures promise { KeepsPromise D.lets_in D.sees_off S.known
         (setup_of maker.width maker.height maker.name.items maker.form maker.host)
-        maker.role (at door watcher (inputs_of sender))
+        maker.role (at place.door place.watcher (inputs_of place.sender))
         (at result.door result.watcher (inputs_of result.sender)) }
 {
-    let rest = Nap { clock: rt };
     match maker.role {
         Role::View => {
+            let Place {
+                door,
+                watcher,
+                sender,
+            } = place;
             let sink = NoSender::of(&sender);
-            let (door, watcher) = show_viewers(&rt, &maker, door, watcher, sink, stop, &rest);
+            let (door, watcher) = show_viewers(&rt, &maker, door, watcher, sink, stop);
             Place {
                 door,
                 watcher,
@@ -250,14 +260,8 @@ fn keep<S: ScreenSource, D: Door, W: Alarm + Drop, F: StopFlag, R: Wait + Clock 
         }
         Role::Full => {
             // A brand names this one sender, so that the sink which comes back is known to be it.
-            let (door, sender, watcher) = serve_from::<Brand, S, D, W, F, Nap<R>, R>(
-                &rt, &maker, door, watcher, sender, alarm, stop, &rest,
-            );
-            Place {
-                door,
-                watcher,
-                sender,
-            }
+            let rest = Nap { clock: rt };
+            serve_from::<Brand, S, D, W, F, Nap<R>, R>(&rt, &maker, place, alarm, stop, &rest)
         }
     }
 }
@@ -266,9 +270,7 @@ fn keep<S: ScreenSource, D: Door, W: Alarm + Drop, F: StopFlag, R: Wait + Clock 
 pub(crate) fn start_place<S, D, B, W, R>(
     context: &RunContext<R, B, W>,
     maker: SessionMaker,
-    door: D,
-    watcher: S,
-    sender: Sender<R>,
+    place: Place<S, D, R>,
 ) -> Result<PlaceHandle<S, D, R>, Fault>
 where
     S: ScreenSource + Drop + Send + 'static,
@@ -281,12 +283,13 @@ where
         × (handle.promise.width ≡ maker.width) × (handle.promise.height ≡ maker.height)
         × (handle.promise.name.value.items ≡ maker.name.items) × (handle.promise.form ≡ maker.form)
         × (handle.promise.host ≡ maker.host)) }
-    ensures ends { IfOk result (λ handle. (handle.promise.door.value ≡ door)
-        × (handle.promise.watcher.value ≡ watcher) × (handle.promise.sender.value ≡ sender)) }
+    ensures ends { IfOk result (λ handle. (handle.promise.door.value ≡ place.door)
+        × (handle.promise.watcher.value ≡ place.watcher)
+        × (handle.promise.sender.value ≡ place.sender)) }
     ensures err { IfErr result (λ fault. fault ≡ Memory) }
 {
     let rt = context.rt;
-    let alarm = Arc::try_clone(&context.writer)?;
+    let alarm = Arc::try_clone(&context.shared.writer)?;
     let stop: Arc<Stop<Arc<B, Global>>, Global> = Arc::try_clone(&context.stop)?;
     let promise = OfPlace {
         role: maker.role,
@@ -295,29 +298,29 @@ where
         name: Snapshot::of(&maker.name),
         form: maker.form,
         host: maker.host,
-        door: Snapshot::of(&door),
-        watcher: Snapshot::of(&watcher),
-        sender: Snapshot::of(&sender),
+        door: Snapshot::of(&place.door),
+        watcher: Snapshot::of(&place.watcher),
+        sender: Snapshot::of(&place.sender),
     };
     let started = Builder::new().stack_size(STACK).spawn_with(
         &rt,
         promise,
         move || -> Place<S, D, R>
             requires { (s : S) → (S.width s ≡ maker.width) × (S.height s ≡ maker.height) }
-            ensures sender { IsSameSender sender result.sender }
+            ensures sender { IsSameSender place.sender result.sender }
             ensures visits { HasVisits D.lets_in D.sees_off
                 (λ source_old source_new sent_old sent_new why left.
                 IsReceived S.looks S.cuts S.may_end ⊤
                 (λ fault. (fault ≡ QueueFull) ⊎ (fault ≡ NumbersOut)) S.known
                 (setup_of maker.width maker.height maker.name.items maker.form maker.host)
                 maker.role source_old source_new sent_old sent_new why left)
-                (at door watcher (inputs_of sender))
+                (at place.door place.watcher (inputs_of place.sender))
                 (at result.door result.watcher (inputs_of result.sender)) }
             ensures promise { KeepsPromise D.lets_in D.sees_off S.known
                 (setup_of maker.width maker.height maker.name.items maker.form maker.host)
-                maker.role (at door watcher (inputs_of sender))
+                maker.role (at place.door place.watcher (inputs_of place.sender))
                 (at result.door result.watcher (inputs_of result.sender)) }
-        { keep(rt, maker, door, watcher, sender, alarm, &*stop) },
+        { keep(rt, maker, place, alarm, &*stop) },
     );
     match started {
         Ok(handle) => Ok(handle),

@@ -8,7 +8,9 @@ ghost use Rattle.host_turns.specs.Running.{HasRun, IsComing, IsOver, came_over, 
 
 use fault::Fault;
 use host_decoder::HostScreen;
-use host_turns::{Ending, Handover, Hosts, JoinedRun, RunBeginning, RunScreen, read_all};
+use host_turns::{
+    Ending, FirstHost, Handover, Hosts, JoinedRun, RunBeginning, RunScreen, read_all,
+};
 use link::Link;
 use reflect_core::Puts;
 use run_traits::{Alarm, Ringing};
@@ -57,13 +59,21 @@ impl<L: Link, H: Hosts<L>, P: Puts + Drop> Promise<HostsRead<L, H, P>> for OfHos
 /// The thread that reads the hosts.
 pub(crate) type ReaderHandle<L, H, P> = PromisedHandle<HostsRead<L, H, P>, OfHosts<L, H, P>>;
 
-/// What the thread begins with: the first host's link, whether that host has called, what reads it, and room for one
-/// link.
+/// The hosts of a run, for the thread that reads them: the link of the first one, which was joined, whether that has
+/// called, where the others come from, and the publisher to which the updates of all are put.
 #[derive(Drop)]
-struct Begun<L: Link> {
+pub(crate) struct HostsToRead<L: Link, H: Hosts<L>, P: Drop> {
+    pub(crate) link: L,
+    pub(crate) has_called: bool,
+    pub(crate) hosts: H,
+    pub(crate) publisher: P,
+}
+
+/// What the thread begins with: the hosts, what reads the first one, and room for one link.
+#[derive(Drop)]
+struct Begun<L: Link, H: Hosts<L>, P: Drop> {
     run_screen: RunScreen,
-    has_called: bool,
-    link: L,
+    to_read: HostsToRead<L, H, P>,
     screen: HostScreen,
     links: Vec<L>,
 }
@@ -71,9 +81,7 @@ struct Begun<L: Link> {
 /// Reads the hosts, and rings the alarm after each put.
 fn read<L: Link, H: Hosts<L>, P: Puts + Drop, B: Alarm + Drop, W: Alarm + Drop, R: Wait>(
     rt: &R,
-    begun: Begun<L>,
-    hosts: H,
-    publisher: P,
+    begun: Begun<L, H, P>,
     alarm: B,
     handover: &Handover<L, W>,
 ) -> HostsRead<L, H, P>
@@ -83,37 +91,40 @@ fn read<L: Link, H: Hosts<L>, P: Puts + Drop, B: Alarm + Drop, W: Alarm + Drop, 
     requires begins { Decodes begun.screen.decoder begun.screen.painter opening
         (host_message begun.run_screen.width begun.run_screen.height) }
     requires pair { IsFor begun.screen.decoder begun.screen.painter }
-    requires publisher { (P.width publisher ≡ begun.run_screen.width)
-        × (P.height publisher ≡ begun.run_screen.height) }
+    requires publisher { (P.width begun.to_read.publisher ≡ begun.run_screen.width)
+        × (P.height begun.to_read.publisher ≡ begun.run_screen.height) }
     ensures run { HasRun begun.run_screen.width begun.run_screen.height begun.run_screen.password
-        (IsComing L.state H.came) result.last (came_over begun.has_called (L.state begun.link))
-        (map L.state result.links.items) (P.updates publisher) (P.updates result.publisher) }
+        (IsComing L.state H.came) result.last
+        (came_over begun.to_read.has_called (L.state begun.to_read.link))
+        (map L.state result.links.items) (P.updates begun.to_read.publisher)
+        (P.updates result.publisher) }
     ensures over { IsOver H.are_out result.hosts result.last }
-    ensures never { goes_on result.last ≡ true → H.again hosts ≡ None }
+    ensures never { goes_on result.last ≡ true → H.again begun.to_read.hosts ≡ None }
 {
     let Begun {
         run_screen,
-        has_called,
-        link,
+        to_read,
         screen,
         links,
     } = begun;
+    let HostsToRead {
+        link,
+        has_called,
+        hosts,
+        publisher,
+    } = to_read;
     let ringing = Ringing {
         inner: publisher,
         alarm,
     };
     let first = RunBeginning::of(has_called, &link, &hosts, &ringing);
-    let run = JoinedRun::new(
-        &first,
-        &run_screen,
-        handover,
+    let host = FirstHost {
+        reader: link,
         has_called,
-        link,
         screen,
-        hosts,
         links,
-        ringing,
-    );
+    };
+    let run = JoinedRun::new(&first, &run_screen, handover, host, hosts, ringing);
     let ended = read_all(rt, run);
     let (last, hosts, links, ringing) = ended.into_parts(());
     let Ringing { inner, alarm: _ } = ringing;
@@ -129,10 +140,7 @@ fn read<L: Link, H: Hosts<L>, P: Puts + Drop, B: Alarm + Drop, W: Alarm + Drop, 
 pub(crate) fn start_reader<L, H, P, B, W, R>(
     rt: R,
     run_screen: RunScreen,
-    has_called: bool,
-    link: L,
-    hosts: H,
-    publisher: P,
+    to_read: HostsToRead<L, H, P>,
     alarm: B,
     handover: Arc<Handover<L, W>, Global>,
 ) -> Result<ReaderHandle<L, H, P>, Fault>
@@ -143,27 +151,29 @@ where
     B: Alarm + Drop + Send + 'static,
     W: Alarm + Drop + Send + Sync + 'static,
     R: Threads + Wait + Copy + Drop + Send + 'static,
-    requires { (P.width publisher ≡ run_screen.width) × (P.height publisher ≡ run_screen.height) }
+    requires { (P.width to_read.publisher ≡ run_screen.width)
+        × (P.height to_read.publisher ≡ run_screen.height) }
     ensures of { IfOk result (λ handle.
         (handle.promise.width ≡ run_screen.width) × (handle.promise.height ≡ run_screen.height)
-        × (handle.promise.password ≡ run_screen.password) × (handle.promise.has_called ≡ has_called)
-        × (handle.promise.link.value ≡ link) × (handle.promise.publisher.value ≡ publisher)
-        × (handle.promise.hosts.value ≡ hosts)) }
+        × (handle.promise.password ≡ run_screen.password)
+        × (handle.promise.has_called ≡ to_read.has_called)
+        × (handle.promise.link.value ≡ to_read.link)
+        × (handle.promise.publisher.value ≡ to_read.publisher)
+        × (handle.promise.hosts.value ≡ to_read.hosts)) }
     ensures err { IfErr result (λ fault. fault ≡ Memory) }
 {
     let promise = OfHosts {
         width: run_screen.width,
         height: run_screen.height,
         password: run_screen.password,
-        has_called,
-        link: Snapshot::of(&link),
-        publisher: Snapshot::of(&publisher),
-        hosts: Snapshot::of(&hosts),
+        has_called: to_read.has_called,
+        link: Snapshot::of(&to_read.link),
+        publisher: Snapshot::of(&to_read.publisher),
+        hosts: Snapshot::of(&to_read.hosts),
     };
     let begun = Begun {
         run_screen,
-        has_called,
-        link,
+        to_read,
         screen: HostScreen::new(run_screen.alloc, run_screen.width, run_screen.height)?,
         links: Vec::with_capacity(run_screen.alloc, 1)?,
     };
@@ -177,9 +187,9 @@ where
             requires begins { Decodes begun.screen.decoder begun.screen.painter opening
                 (host_message begun.run_screen.width begun.run_screen.height) }
             requires pair { IsFor begun.screen.decoder begun.screen.painter }
-            requires publisher { (P.width publisher ≡ begun.run_screen.width)
-                × (P.height publisher ≡ begun.run_screen.height) }
-        { read(&rt, begun, hosts, publisher, alarm, &*handover) },
+            requires publisher { (P.width begun.to_read.publisher ≡ begun.run_screen.width)
+                × (P.height begun.to_read.publisher ≡ begun.run_screen.height) }
+        { read(&rt, begun, alarm, &*handover) },
     );
     match started {
         Ok(handle) => Ok(handle),

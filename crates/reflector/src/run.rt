@@ -18,10 +18,10 @@ ghost use Rattle.run_traits.specs.Unused.{unused};
 ghost use Rattle.reflector.specs.Visits.{IsOfScreen};
 
 use crate::context::RunContext;
-use crate::input_counts::InputCounts;
-use crate::place::{PlaceHandle, start_place};
+use crate::given::{RunHosts, RunPlaces, RunShared};
+use crate::place::{Place, PlaceHandle, start_place};
 use crate::ran::{Ran, Told};
-use crate::reader::{HostsRead, ReaderHandle, start_reader};
+use crate::reader::{HostsRead, HostsToRead, ReaderHandle, start_reader};
 use crate::session_maker::SessionMaker;
 use crate::writer::{HostsTold, WriterHandle, start_writer};
 use fault::Fault;
@@ -33,7 +33,7 @@ use reflect_core::{Puts, ScreenSource};
 use rfb_wire::Joined;
 use roles::{Role, Strokes};
 use run_traits::{Alarm, Door, Stop, Written};
-use shared_screen::{Naming, Opened, Publisher, Publishes, Watcher, shared};
+use shared_screen::{Naming, Opened, Publisher, Publishes, Watcher};
 use std::alloc::Global;
 use std::marker::Brand;
 use std::snapshot::Snapshot;
@@ -90,6 +90,13 @@ struct Beginning<L, D> {
     has_called: bool,
 }
 
+/// The relay of a run: the sender of each place, and what the hosts' writer takes their input from.
+#[derive(Drop)]
+struct RunRelay<R: Wait + Drop> {
+    senders: Vec<Sender<R>>,
+    taker: Taker<R>,
+}
+
 /// The threads of a run.
 struct Started<L: Link, H: Hosts<L>, P: Puts + Drop, S: ScreenSource, D: Door, R: Wait + Drop> {
     places: Vec<PlaceHandle<S, D, R>>,
@@ -97,10 +104,9 @@ struct Started<L: Link, H: Hosts<L>, P: Puts + Drop, S: ScreenSource, D: Door, R
     reader: ReaderHandle<L, H, P>,
 }
 
-/// Starts the thread of each place, with the sender of its number. Viewers are told this screen.
+/// Starts the thread of each place, with the sender of its number.
 fn start_places<S, D, B, W, R>(
     context: &RunContext<R, B, W>,
-    screen: &Joined,
     mut doors: Vec<(Role, D)>,
     mut watchers: Vec<S>,
     senders: Vec<Sender<R>>,
@@ -111,8 +117,9 @@ where
     B: Alarm + Drop + Send + Sync + 'static,
     W: Alarm + Drop + Send + Sync + 'static,
     R: Threads + Wait + Clock + Copy + Drop + Send + 'static,
-    requires size { IsScreenSize screen.now.w screen.now.h }
-    requires screen { (s : S) → (S.width s ≡ screen.now.w) × (S.height s ≡ screen.now.h) }
+    requires size { IsScreenSize context.now.screen.w context.now.screen.h }
+    requires screen { (s : S)
+        → (S.width s ≡ context.now.screen.w) × (S.height s ≡ context.now.screen.h) }
     requires count { (vec_len doors ≡ vec_len senders) × (vec_len watchers ≡ vec_len senders) }
     ensures of { IfOk result (λ places.
         map (λ place. place.promise.sender.value) places.items ≡ senders.items) }
@@ -121,7 +128,8 @@ where
     ensures watchers { IfOk result (λ places.
         map (λ place. place.promise.watcher.value) places.items ≡ watchers.items) }
     ensures screen { IfOk result (λ places. All (λ place.
-        IsOfScreen screen.now.w screen.now.h screen.now.name context.now.form context.now.host
+        IsOfScreen context.now.screen.w context.now.screen.h context.now.screen.name
+        context.now.form context.now.host
         place.promise.width place.promise.height place.promise.name.value.items
         place.promise.form place.promise.host) places.items) }
     ensures err { IfErr result (λ fault. fault ≡ Memory) }
@@ -130,17 +138,19 @@ where
     for sender in senders {
         let (role, door) = doors.remove(0);
         let watcher = watchers.remove(0);
-        let name = screen.name.as_slice();
         let maker = SessionMaker::new(
             context.alloc,
-            screen.w,
-            screen.h,
-            name,
+            &context.screen,
             role,
             context.form,
             context.host,
         )?;
-        let place = start_place(context, maker, door, watcher, sender)?;
+        let held = Place {
+            door,
+            watcher,
+            sender,
+        };
+        let place = start_place(context, maker, held)?;
         places.push(place)?;
     }
     Ok(places)
@@ -151,15 +161,10 @@ where
 fn start_all<L, H, P, S, D, B, W, R>(
     context: &RunContext<R, B, W>,
     handover: &Arc<Handover<L, W>, Global>,
-    has_called: bool,
-    first: L,
-    screen: &Joined,
-    hosts: H,
+    to_read: HostsToRead<L, H, P>,
     doors: Vec<(Role, D)>,
-    publisher: P,
     mut watchers: Vec<S>,
-    senders: Vec<Sender<R>>,
-    taker: Taker<R>,
+    relay: RunRelay<R>,
 ) -> Result<Started<L, H, P, S, D, R>, Fault>
 where
     L: Link + Send + 'static,
@@ -170,49 +175,52 @@ where
     B: Alarm + Drop + Send + Sync + 'static,
     W: Alarm + Rest + Drop + Send + Sync + 'static,
     R: Threads + Wait + Clock + Copy + Drop + Send + 'static,
-    requires size { IsScreenSize screen.now.w screen.now.h }
-    requires publisher { (P.width publisher ≡ screen.now.w) × (P.height publisher ≡ screen.now.h) }
-    requires screen { (s : S) → (S.width s ≡ screen.now.w) × (S.height s ≡ screen.now.h) }
-    requires count { (vec_len doors ≡ vec_len senders) × (vec_len watchers ≡ vec_len senders + 1) }
+    requires size { IsScreenSize context.now.screen.w context.now.screen.h }
+    requires publisher { (P.width to_read.publisher ≡ context.now.screen.w)
+        × (P.height to_read.publisher ≡ context.now.screen.h) }
+    requires screen { (s : S)
+        → (S.width s ≡ context.now.screen.w) × (S.height s ≡ context.now.screen.h) }
+    requires count { (vec_len doors ≡ vec_len relay.senders)
+        × (vec_len watchers ≡ vec_len relay.senders + 1) }
     ensures places { IfOk result (λ started.
-        map (λ place. place.promise.sender.value) started.places.items ≡ senders.items) }
+        map (λ place. place.promise.sender.value) started.places.items ≡ relay.senders.items) }
     ensures doors { IfOk result (λ started.
         map (λ place. (place.promise.role, place.promise.door.value)) started.places.items
         ≡ doors.items) }
     ensures watchers { IfOk result (λ started.
         map (λ place. place.promise.watcher.value) started.places.items ≡ drop 1 watchers.items) }
     ensures screen { IfOk result (λ started. All (λ place.
-        IsOfScreen screen.now.w screen.now.h screen.now.name context.now.form context.now.host
+        IsOfScreen context.now.screen.w context.now.screen.h context.now.screen.name
+        context.now.form context.now.host
         place.promise.width place.promise.height place.promise.name.value.items
         place.promise.form place.promise.host) started.places.items) }
-    ensures writer { IfOk result (λ started. (started.writer.promise.taker.value ≡ taker)
+    ensures writer { IfOk result (λ started. (started.writer.promise.taker.value ≡ relay.taker)
         × (started.writer.promise.source.value
         ≡ slice_index_or watchers.items 0 started.writer.promise.source.value)
         × StrokesStand started.writer.promise.strokes.value []) }
-    ensures reader { IfOk result (λ started. (started.reader.promise.width ≡ screen.now.w)
-        × (started.reader.promise.height ≡ screen.now.h)
+    ensures reader { IfOk result (λ started. (started.reader.promise.width ≡ context.now.screen.w)
+        × (started.reader.promise.height ≡ context.now.screen.h)
         × (started.reader.promise.password ≡ context.now.password)
-        × (started.reader.promise.has_called ≡ has_called)
-        × (started.reader.promise.link.value ≡ first)
-        × (started.reader.promise.publisher.value ≡ publisher)
-        × (started.reader.promise.hosts.value ≡ hosts)) }
+        × (started.reader.promise.has_called ≡ to_read.has_called)
+        × (started.reader.promise.link.value ≡ to_read.link)
+        × (started.reader.promise.publisher.value ≡ to_read.publisher)
+        × (started.reader.promise.hosts.value ≡ to_read.hosts)) }
     ensures err { IfErr result (λ fault. fault ≡ Memory) }
 {
+    let RunRelay { senders, taker } = relay;
     let watcher = watchers.remove(0);
     let strokes = Strokes::new(context.alloc, senders.len() as u64)?;
-    let places = start_places(context, screen, doors, watchers, senders)?;
+    let places = start_places(context, doors, watchers, senders)?;
     let writer = start_writer(context, Arc::try_clone(handover)?, watcher, taker, strokes)?;
     let run_screen = RunScreen {
         alloc: context.alloc,
-        width: screen.w,
-        height: screen.h,
+        width: context.screen.w,
+        height: context.screen.h,
         password: context.password,
     };
-    let alarm = Arc::try_clone(&context.everyone)?;
+    let alarm = Arc::try_clone(&context.shared.everyone)?;
     let handover = Arc::try_clone(handover)?;
-    let reader = start_reader(
-        context.rt, run_screen, has_called, first, hosts, publisher, alarm, handover,
-    )?;
+    let reader = start_reader(context.rt, run_screen, to_read, alarm, handover)?;
     Ok(Started {
         places,
         writer,
@@ -282,33 +290,28 @@ where
 }
 
 /// The relay of a run, and its gauge for those who watch the run. It fails where memory is refused (`Memory`).
-fn watched_relay<B, W, R>(
-    context: &RunContext<R, B, W>,
-    places: u64,
-) -> Result<(Vec<Sender<R>>, Taker<R>), Fault>
+fn watched_relay<B, W, R>(context: &RunContext<R, B, W>, places: u64) -> Result<RunRelay<R>, Fault>
 where
     B: Alarm + Drop,
     W: Alarm + Drop,
     R: Wait + Drop + Copy,
     requires { (0 < places) × (places ≤ 65) }
-    ensures count { IfOk result (λ r. vec_len r.0 ≡ places) }
-    ensures places { IfOk result (λ r. map strand_of r.0.items ≡ fresh places) }
-    ensures one { IfOk result (λ r. All (λ s. relay_of s ≡ host_of r.1) r.0.items) }
-    ensures taken { IfOk result (λ r. taken_of r.1 ≡ []) }
+    ensures count { IfOk result (λ r. vec_len r.senders ≡ places) }
+    ensures places { IfOk result (λ r. map strand_of r.senders.items ≡ fresh places) }
+    ensures one { IfOk result (λ r. All (λ s. relay_of s ≡ host_of r.taker) r.senders.items) }
+    ensures taken { IfOk result (λ r. taken_of r.taker ≡ []) }
     ensures err { IfErr result (λ fault. fault ≡ Memory) }
 {
     let (senders, mut taker) = relay(context.rt, context.alloc, places)?;
     let gauge = taker.gauge()?;
-    context.input.attach(&context.rt, gauge);
-    Ok((senders, taker))
+    context.shared.input.attach(&context.rt, gauge);
+    Ok(RunRelay { senders, taker })
 }
 
-/// A run over any screen, which viewers are told: its publisher, and a watcher for each place and one for the hosts'
-/// writer.
+/// A run over any screen: its publisher, and a watcher for each place and one for the hosts' writer.
 fn run_over<L, H, P, S, D, B, W, R>(
     context: &RunContext<R, B, W>,
     ends: HostEnds<L>,
-    screen: &Joined,
     hosts: H,
     doors: Vec<(Role, D)>,
     publisher: P,
@@ -323,13 +326,16 @@ where
     B: Alarm + Drop + Send + Sync + 'static,
     W: Alarm + Rest + Drop + Send + Sync + 'static,
     R: Threads + Wait + Clock + Copy + Drop + Send + 'static,
-    requires size { IsScreenSize screen.now.w screen.now.h }
-    requires publisher { (P.width publisher ≡ screen.now.w) × (P.height publisher ≡ screen.now.h) }
-    requires screen { (s : S) → (S.width s ≡ screen.now.w) × (S.height s ≡ screen.now.h) }
+    requires size { IsScreenSize context.now.screen.w context.now.screen.h }
+    requires publisher { (P.width publisher ≡ context.now.screen.w)
+        × (P.height publisher ≡ context.now.screen.h) }
+    requires screen { (s : S)
+        → (S.width s ≡ context.now.screen.w) × (S.height s ≡ context.now.screen.h) }
     requires doors { (1 ≤ vec_len doors) × (vec_len doors ≤ 65)
         × (vec_len watchers ≡ vec_len doors + 1) }
     requires writer { L.state ends.writer ≡ unused }
-    ensures run { IfOk result (λ run. HasRun screen.now.w screen.now.h context.now.password
+    ensures run { IfOk result (λ run.
+        HasRun context.now.screen.w context.now.screen.h context.now.password
         (IsComing L.state H.came) run.last (came_over ends.has_called (L.state ends.reader))
         (map L.state run.links.items) (P.updates publisher) (P.updates run.publisher)) }
     ensures over { IfOk result (λ run. IsOver H.are_out run.hosts run.last) }
@@ -350,7 +356,8 @@ where
     ensures watchers { IfOk result (λ run.
         map (λ place. place.promise.watcher.value) run.places.items ≡ drop 1 watchers.items) }
     ensures screen { IfOk result (λ run. All (λ place.
-        IsOfScreen screen.now.w screen.now.h screen.now.name context.now.form context.now.host
+        IsOfScreen context.now.screen.w context.now.screen.h context.now.screen.name
+        context.now.form context.now.host
         place.promise.width place.promise.height place.promise.name.value.items
         place.promise.form place.promise.host) run.places.items) }
     ensures err { IfErr result (λ fault. fault ≡ Memory) }
@@ -360,13 +367,16 @@ where
         writer,
         has_called,
     } = ends;
-    let (senders, taker) = watched_relay(context, doors.len() as u64)?;
-    let alarm = Arc::try_clone(&context.writer)?;
+    let relay = watched_relay(context, doors.len() as u64)?;
+    let alarm = Arc::try_clone(&context.shared.writer)?;
     let handover = Arc::new(context.alloc, Handover::new(writer, alarm))?;
-    match start_all(
-        context, &handover, has_called, reader, screen, hosts, doors, publisher, watchers, senders,
-        taker,
-    ) {
+    let to_read = HostsToRead {
+        link: reader,
+        has_called,
+        hosts,
+        publisher,
+    };
+    match start_all(context, &handover, to_read, doors, watchers, relay) {
         Ok(started) => Ok(end_all(context, started)),
         Err(fault) => {
             context.stop.set();
@@ -462,8 +472,8 @@ where
     }
 }
 
-/// Runs a reflector: a first host that was joined, over its two links, then the hosts of a supply in turn, and the
-/// places of their viewers, each behind its door.
+/// Runs a reflector: a first host that was joined, over its two links, then the hosts of a supply in turn (`hosts`),
+/// and the places of their viewers, each behind its door (`places`).
 ///
 /// Each place has a thread, which serves one viewer after another. A further thread tells the hosts what they have to
 /// be told, and another reads them. The call waits until the last host is read, tells the other threads to end, and
@@ -486,9 +496,10 @@ where
 /// Each door is for the role that stands beside it, in which its place serves its viewers. All viewers are answered in
 /// the same one of the two forms (`joined_runs`).
 ///
-/// `everyone`, the alarm of all that wait for news, including the hosts' writer, is rung after each put. `writer_bell`
-/// is rung after each input. The hosts' writer goes on with each host that is read; what was cut short at the end of
-/// one host isn't written again. Meanwhile `input` tells how many inputs wait, and how many weren't told.
+/// `shared.everyone`, the alarm of all that wait for news, including the hosts' writer, is rung after each put.
+/// `shared.writer` is rung after each input. The hosts' writer goes on with each host that is read; what was cut short
+/// at the end of one host isn't written again. Meanwhile `shared.input` tells how many inputs wait, and how many
+/// weren't told.
 ///
 /// No other call hands out what shows that a run was run. So a caller further up, which is handed that alone, knows
 /// that there was a run, and what it was (`ran`).
@@ -501,14 +512,9 @@ pub fn run_all<J, L, H, D, B, W, R>(
     rt: R,
     room: RunScreen,
     history: Opened<J>,
-    ends: HostEnds<L>,
-    joined: Joined,
-    hosts: H,
-    doors: Vec<(Role, D)>,
-    form: AnswerForm,
-    everyone: Arc<B, Global>,
-    writer_bell: Arc<W, Global>,
-    input: Arc<InputCounts, Global>,
+    hosts: RunHosts<L, H>,
+    places: RunPlaces<D>,
+    shared: RunShared<B, W>,
 ) -> Result<Running<L, H, Publisher<J, R>, Watcher<J>, D, R>, Fault>
 where
     J: Naming + Publishes + Send + Sync + 'static,
@@ -519,19 +525,20 @@ where
     W: Alarm + Rest + Drop + Send + Sync + 'static,
     R: Threads + Wait + Clock + Copy + Drop + Send + 'static,
     requires history { history.seen.book ≡ J.book }
-    requires fits { (joined.w ≤ room.width) × (joined.h ≤ room.height) }
+    requires fits { (hosts.joined.w ≤ room.width) × (hosts.joined.h ≤ room.height) }
     requires size { (room.width ≡ J.width) × (room.height ≡ J.height) }
-    requires doors { (1 ≤ vec_len doors) × (vec_len doors ≤ 65) }
-    requires roles { All (λ door. D.is_for door.1 door.0) doors.items }
-    requires writer { L.state ends.writer ≡ unused }
+    requires doors { (1 ≤ vec_len places.doors) × (vec_len places.doors ≤ 65) }
+    requires roles { All (λ door. D.is_for door.1 door.0) places.doors.items }
+    requires writer { L.state hosts.first.writer ≡ unused }
     ensures run { IfOk result (λ run. HasRun J.width J.height room.password
-        (IsComing L.state H.came) run.last (came_over ends.has_called (L.state ends.reader))
+        (IsComing L.state H.came) run.last
+        (came_over hosts.first.has_called (L.state hosts.first.reader))
         (map L.state run.links.items) [] (puts_of run.publisher.changes)) }
     ensures over { IfOk result (λ run. IsOver H.are_out run.hosts run.last) }
-    ensures never { IfOk result (λ run. goes_on run.last ≡ true → H.again hosts ≡ None) }
+    ensures never { IfOk result (λ run. goes_on run.last ≡ true → H.again hosts.further ≡ None) }
     ensures places { IfOk result (λ run.
         map (λ place. strand_of place.promise.sender.value) run.places.items
-        ≡ fresh (vec_len doors)) }
+        ≡ fresh (vec_len places.doors)) }
     ensures relay { IfOk result (λ run.
         All (λ place. relay_of place.promise.sender.value ≡ host_of run.taker) run.places.items) }
     ensures told { IfOk result (λ run.
@@ -546,22 +553,23 @@ where
         run.dropped ≡ all_dropped (map taken_from (taken_of run.taker))) }
     ensures doors { IfOk result (λ run.
         map (λ place. (place.promise.role, place.promise.door.value)) run.places.items
-        ≡ doors.items) }
+        ≡ places.doors.items) }
     ensures watchers { IfOk result (λ run.
         All (λ place. place.promise.watcher.value ≡ nothing_put) run.places.items) }
     ensures screen { IfOk result (λ run. All (λ place.
-        IsOfScreen room.width room.height joined.name form
-        (record { width = joined.w; height = joined.h }) place.promise.width place.promise.height
-        place.promise.name.value.items place.promise.form place.promise.host) run.places.items) }
+        IsOfScreen room.width room.height hosts.joined.name places.form
+        (record { width = hosts.joined.w; height = hosts.joined.h })
+        place.promise.width place.promise.height place.promise.name.value.items
+        place.promise.form place.promise.host) run.places.items) }
     ensures ran { IfOk result (λ run. run.ran.course ≡ record {
-      host = joined;
+      host = hosts.joined;
       room_width = room.width;
       room_height = room.height;
       password = room.password;
-      form = form;
-      roles = map (λ door. door.0) doors.items;
+      form = places.form;
+      roles = map (λ door. door.0) places.doors.items;
       last_end = run.last;
-      came = came_over ends.has_called (L.state ends.reader);
+      came = came_over hosts.first.has_called (L.state hosts.first.reader);
       links = map L.state run.links.items;
       told = links_in L.state run.written;
       taken = taken_of run.taker;
@@ -569,6 +577,12 @@ where
     }) }
     ensures err { IfErr result (λ fault. (fault ≡ Memory) ⊎ (fault ≡ NoPlace)) }
 {
+    let RunHosts {
+        first: ends,
+        joined,
+        further,
+    } = hosts;
+    let RunPlaces { doors, form } = places;
     let first = size_of(&joined);
     let began = Beginning {
         host: Snapshot::of(&joined),
@@ -578,19 +592,18 @@ where
         has_called: ends.has_called,
     };
     let alloc = room.alloc;
-    let stop = Arc::new(alloc, Stop::new(Arc::try_clone(&everyone)?))?;
+    let stop = Arc::new(alloc, Stop::new(Arc::try_clone(&shared.everyone)?))?;
     let context = RunContext {
         rt,
         alloc,
         password: room.password,
         form,
+        screen: screen_of(&room, joined),
         host: first,
-        everyone,
-        writer: writer_bell,
-        input,
+        shared,
         stop,
     };
-    let (publisher, watchers) = shared::<J, R>(
+    let (publisher, watchers) = shared_screen::shared::<J, R>(
         rt,
         alloc,
         history,
@@ -598,7 +611,6 @@ where
         room.height,
         doors.len() + 1,
     )?;
-    let screen = screen_of(&room, joined);
-    let left = run_over(&context, ends, &screen, hosts, doors, publisher, watchers)?;
+    let left = run_over(&context, ends, further, doors, publisher, watchers)?;
     Ok(shown::<Brand, J, L, H, D, R>(&began, form, left))
 }

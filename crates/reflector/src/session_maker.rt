@@ -9,6 +9,7 @@ ghost use Rattle.reflector.specs.Visits.{name_of};
 
 use fault::Fault;
 use raster::Size;
+use rfb_wire::Joined;
 use roles::Role;
 use std::alloc::Global;
 use viewer_session::{AnswerForm, Session};
@@ -32,30 +33,30 @@ pub struct SessionMaker {
 }
 
 impl SessionMaker {
-    /// A maker of sessions. It fails where memory for the name is refused (`Memory`).
+    /// A maker of sessions, whose viewers are told this screen. It fails where memory for the name is refused
+    /// (`Memory`).
     pub(crate) fn new(
         alloc: Global,
-        width: u64,
-        height: u64,
-        name: &[u8],
+        screen: &Joined,
         role: Role,
         form: AnswerForm,
         host: Size,
     ) -> Result<SessionMaker, Fault>
-        requires size { IsScreenSize width height }
-        requires name { length name.now ≤ 255 }
-        ensures size { IfOk result (λ maker. (maker.width ≡ width) × (maker.height ≡ height)) }
+        requires { IsScreenSize screen.now.w screen.now.h }
+        ensures size { IfOk result (λ maker.
+            (maker.width ≡ screen.now.w) × (maker.height ≡ screen.now.h)) }
         ensures named { IfOk result (λ maker.
-            (maker.role ≡ role) × (maker.name.items ≡ name_of name.now)) }
+            (maker.role ≡ role) × (maker.name.items ≡ name_of screen.now.name)) }
         ensures formed { IfOk result (λ maker. (maker.form ≡ form) × (maker.host ≡ host)) }
         ensures err { IfErr result (λ fault. fault ≡ Memory) }
     {
+        let name = screen.name.as_slice();
         let name = if name.is_empty() { NO_NAME } else { name };
         let name = name.to_vec(alloc)?;
         Ok(SessionMaker {
             alloc,
-            width,
-            height,
+            width: screen.w,
+            height: screen.h,
             name,
             role,
             form,

@@ -26,6 +26,17 @@ use std::sync::{Arc, Wait};
 use std::thread;
 use std::thread::{Promise, PromisedHandle, Threads};
 
+/// What the thread that tells the hosts is given: the hosts that are handed over, the source of the looks, the taker of the
+/// viewers' input, the strokes by which that is judged, and where others read how much was dropped.
+#[derive(Drop)]
+struct HostsToTell<L: Link, W: Alarm + Drop, S, R: Wait + Drop> {
+    handed: HandoverTaker<L, W>,
+    source: S,
+    taker: Taker<R>,
+    strokes: Strokes,
+    input: Arc<InputCounts, Global>,
+}
+
 /// What telling the hosts came to: the links over which they were told, the taker of the viewers' input, whose key or
 /// button is down after all that was taken, and how many inputs of all places were dropped.
 #[derive(Drop)]
@@ -107,20 +118,24 @@ where
 /// Tells the hosts whose links are handed over, as `write` does.
 fn tell<L: Link, W: Alarm + Drop, S: ScreenSource + Drop, Z: Rest, R: Wait + Drop>(
     rt: &R,
-    handed: HandoverTaker<L, W>,
-    source: S,
-    taker: Taker<R>,
-    strokes: Strokes,
-    input: Arc<InputCounts, Global>,
+    to_tell: HostsToTell<L, W, S, R>,
     rest: &Z,
 ) -> HostsTold<L, R>
     requires { (s : S) → IsScreenSize (S.width s) (S.height s) }
-    ensures relay { host_of result.taker ≡ host_of taker }
-    ensures counted { IsCounted (taken_of taker) strokes 0
+    ensures relay { host_of result.taker ≡ host_of to_tell.taker }
+    ensures counted { IsCounted (taken_of to_tell.taker) to_tell.strokes 0
         → IsCounted (taken_of result.taker) result.strokes result.dropped }
-    ensures told { HasTold S.looks S.width S.height (desk [] source (taken_of taker) strokes)
+    ensures told { HasTold S.looks S.width S.height
+        (desk [] to_tell.source (taken_of to_tell.taker) to_tell.strokes)
         (links_in L.state result.written) (taken_of result.taker) result.strokes }
 {
+    let HostsToTell {
+        handed,
+        source,
+        taker,
+        strokes,
+        input,
+    } = to_tell;
     let drops = DropCounter::new(input);
     let first = TellerBeginning::of(&source, &taker, &strokes, &drops);
     let free = FreeTeller::new(&first, source, taker, strokes, drops);
@@ -138,11 +153,7 @@ fn tell<L: Link, W: Alarm + Drop, S: ScreenSource + Drop, Z: Rest, R: Wait + Dro
 fn tell_beside<L, S, Z, W, R>(
     rt: R,
     rest: Arc<Z, Global>,
-    handed: HandoverTaker<L, W>,
-    source: S,
-    taker: Taker<R>,
-    strokes: Strokes,
-    input: Arc<InputCounts, Global>,
+    to_tell: HostsToTell<L, W, S, R>,
 ) -> Result<WriterHandle<L, S, R>, Fault>
 where
     L: Link + Send + 'static,
@@ -151,27 +162,28 @@ where
     W: Alarm + Drop + Send + Sync + 'static,
     R: Threads + Wait + Copy + Drop + Send + 'static,
     requires { (s : S) → IsScreenSize (S.width s) (S.height s) }
-    ensures of { IfOk result (λ handle. (handle.promise.source.value ≡ source)
-        × (handle.promise.taker.value ≡ taker) × (handle.promise.strokes.value ≡ strokes)) }
+    ensures of { IfOk result (λ handle. (handle.promise.source.value ≡ to_tell.source)
+        × (handle.promise.taker.value ≡ to_tell.taker)
+        × (handle.promise.strokes.value ≡ to_tell.strokes)) }
     ensures err { IfErr result (λ fault. fault ≡ Memory) }
 {
     let promise = OfTaker {
-        source: Snapshot::of(&source),
-        taker: Snapshot::of(&taker),
-        strokes: Snapshot::of(&strokes),
+        source: Snapshot::of(&to_tell.source),
+        taker: Snapshot::of(&to_tell.taker),
+        strokes: Snapshot::of(&to_tell.strokes),
     };
     let started = thread::spawn_with(
         &rt,
         promise,
         move || -> HostsTold<L, R>
             requires { (s : S) → IsScreenSize (S.width s) (S.height s) }
-            ensures relay { host_of result.taker ≡ host_of taker }
-            ensures counted { IsCounted (taken_of taker) strokes 0
+            ensures relay { host_of result.taker ≡ host_of to_tell.taker }
+            ensures counted { IsCounted (taken_of to_tell.taker) to_tell.strokes 0
                 → IsCounted (taken_of result.taker) result.strokes result.dropped }
             ensures told { HasTold S.looks S.width S.height
-                (desk [] source (taken_of taker) strokes) (links_in L.state result.written)
-                (taken_of result.taker) result.strokes }
-        { tell(&rt, handed, source, taker, strokes, input, &*rest) },
+                (desk [] to_tell.source (taken_of to_tell.taker) to_tell.strokes)
+                (links_in L.state result.written) (taken_of result.taker) result.strokes }
+        { tell(&rt, to_tell, &*rest) },
     );
     match started {
         Ok(handle) => Ok(handle),
@@ -198,8 +210,13 @@ where
         × (handle.promise.taker.value ≡ taker) × (handle.promise.strokes.value ≡ strokes)) }
     ensures err { IfErr result (λ fault. fault ≡ Memory) }
 {
-    let rest = Arc::try_clone(&context.writer)?;
-    let input = Arc::try_clone(&context.input)?;
-    let handed = HandoverTaker::new(handover);
-    tell_beside(context.rt, rest, handed, source, taker, strokes, input)
+    let rest = Arc::try_clone(&context.shared.writer)?;
+    let to_tell = HostsToTell {
+        handed: HandoverTaker::new(handover),
+        source,
+        taker,
+        strokes,
+        input: Arc::try_clone(&context.shared.input)?,
+    };
+    tell_beside(context.rt, rest, to_tell)
 }

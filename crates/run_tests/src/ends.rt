@@ -17,7 +17,7 @@ use joined_runs::RectForm;
 use link::Link;
 use raster::Rect;
 use reflect_core::{Cut, ScreenSource};
-use reflector::{InputCounts, Place, Running, join_place, run_all};
+use reflector::{InputCounts, Place, RunHosts, RunPlaces, RunShared, Running, join_place, run_all};
 use rfb_wire::Joined;
 use roles::Role;
 use run_traits::{Door, NoAlarm, PlaceCount};
@@ -188,10 +188,13 @@ where
 {
     let mut name = ArrayVec::new();
     name.push(b'T');
-    let everyone = Arc::new(alloc, NoAlarm)?;
-    let alarm = Arc::new(alloc, NoAlarm)?;
     let input = Arc::new(alloc, InputCounts::new())?;
-    let mut hosts = Queue {
+    let shared = RunShared {
+        everyone: Arc::new(alloc, NoAlarm)?,
+        writer: Arc::new(alloc, NoAlarm)?,
+        input: Arc::try_clone(&input)?,
+    };
+    let mut further = Queue {
         alloc,
         board: Arc::try_clone(board)?,
         place: 0,
@@ -200,8 +203,14 @@ where
         may_end: course.may_end,
         count: PlaceCount::new(),
     };
-    let doors = doors_of(alloc, board, course)?;
-    let Some(first) = Hosts::next(&mut hosts) else {
+    let places = RunPlaces {
+        doors: doors_of(alloc, board, course)?,
+        form: AnswerForm {
+            runs: RectForm::Joined,
+            zrle: false,
+        },
+    };
+    let Some(first) = Hosts::next(&mut further) else {
         return Ok(false);
     };
     let room = RunScreen {
@@ -210,25 +219,17 @@ where
         height: course.view.h,
         password: None,
     };
-    let running = run_all::<J, Wire, Queue, Queue, NoAlarm, NoAlarm, R>(
-        rt,
-        room,
-        history,
+    let hosts = RunHosts {
         first,
-        Joined {
+        joined: Joined {
             w: course.view.w,
             h: course.view.h,
             name,
         },
-        hosts,
-        doors,
-        AnswerForm {
-            runs: RectForm::Joined,
-            zrle: false,
-        },
-        everyone,
-        alarm,
-        Arc::try_clone(&input)?,
+        further,
+    };
+    let running = run_all::<J, Wire, Queue, Queue, NoAlarm, NoAlarm, R>(
+        rt, room, history, hosts, places, shared,
     )?;
     ends(rt, alloc, running, &input, course.view, &course.end)
 }

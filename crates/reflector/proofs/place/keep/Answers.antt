@@ -13,4 +13,4 @@ returns-in-View-clause-promise g c =
 
 pub returns-clause-promise : goal.returns-clause-promise
 returns-clause-promise g c =
-    keeps_promise _ _ g.S.ScreenSource.looks g.S.ScreenSource.cuts g.S.ScreenSource.may_end _ _ g.S.ScreenSource.known _ _ _ _ (omega (arith, c.args.maker.size.wide.1)) (omega (arith, c.args.maker.size.high.1)) c.serve_from-door.ensures.visits
+    keeps_promise _ _ g.S.ScreenSource.looks g.S.ScreenSource.cuts g.S.ScreenSource.may_end _ _ g.S.ScreenSource.known _ _ _ _ (omega (arith, c.args.maker.size.wide.1)) (omega (arith, c.args.maker.size.high.1)) c.serve_from.ensures.visits

@@ -3,4 +3,4 @@ use Rattle.reflector.proofs.place.keep.Given as goal
 
 -- The sender that came names itself.
 abbrev pub ghosts-serve_from : goal.ghosts-serve_from
-ghosts-serve_from g a = record { relay = relay_of a.sender; place = place_of a.sender }
+ghosts-serve_from g a = record { relay = relay_of a.place.sender; place = place_of a.place.sender }

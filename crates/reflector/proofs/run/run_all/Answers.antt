@@ -15,7 +15,7 @@ returns-clause-relay g c = rw (c.shown.ensures.places, c.shown.ensures.taker) c.
 
 pub returns-clause-screen : goal.returns-clause-screen
 returns-clause-screen g c =
-    let told = c.screen_of-screen.ensures in
+    let told = c.screen_of.ensures in
     rw c.shown.ensures.places
     (λ k d inside. let it = c.in_ok-left.ensures.screen k d inside in (it.0 ∙ told.size.0, it.1 ∙ told.size.1, it.2 ∙ ap name_of told.name, it.3, it.4 ∙ c.size_of-first.ensures))
 

@@ -1,7 +1,7 @@
 use Rattle.reflector.proofs.Places.{first_left, grown, grown_by, pair_of}
 use Rattle.shared_screen.proofs.Every.{all_snoc}
 use Rattle.std.proofs.Common.{◌<◌, ◌∙◌, ap, arith, length, rules}
-use Rattle.reflector.specs.Visits.{IsOfScreen, name_of}
+use Rattle.reflector.specs.Visits.{IsOfScreen}
 use Rattle.reflector.proofs.run.start_places.Goals as goal
 
 pub loop-sender-preserved : goal.loop-sender-preserved
@@ -17,7 +17,7 @@ loop-sender-preserved g c =
       begun = rw c.in_ok-push.ensures.items (grown _ c.loop-sender.places.items c.in_ok-place.place c.in-Some.sender _ _ ends.2 (rw (← steps) inv.begun));
       doors = rw c.in_ok-push.ensures.items (grown_by _ c.loop-sender.places.items c.in_ok-place.place c.remove-role.result _ _ _ door (pair_of _ _ c.remove-role.result (of.0 ∙ told.named.0) ends.0) inv.doors);
       watchers = rw c.in_ok-push.ensures.items (grown_by _ c.loop-sender.places.items c.in_ok-place.place c.remove-watcher.result _ _ _ watcher ends.1 inv.watchers);
-      screen = rw c.in_ok-push.ensures.items (all_snoc (λ place. IsOfScreen c.args.screen.now.w c.args.screen.now.h c.args.screen.now.name c.args.context.now.form c.args.context.now.host place.promise.width place.promise.height place.promise.name.value.items place.promise.form place.promise.host) c.loop-sender.places.items c.in_ok-place.place inv.screen (rw (← c.screen.view_is) (of.1 ∙ told.size.0), rw (← c.screen.view_is) (of.2 ∙ told.size.1), rw (← c.screen.view_is) (of.3 ∙ (told.named.1 ∙ ap name_of c.as_slice-name.ensures.value)), of.4 ∙ told.formed.0, of.5 ∙ told.formed.1));
+      screen = rw c.in_ok-push.ensures.items (all_snoc (λ place. IsOfScreen c.args.context.now.screen.w c.args.context.now.screen.h c.args.context.now.screen.name c.args.context.now.form c.args.context.now.host place.promise.width place.promise.height place.promise.name.value.items place.promise.form place.promise.host) c.loop-sender.places.items c.in_ok-place.place inv.screen (of.1 ∙ told.size.0, of.2 ∙ told.size.1, of.3 ∙ told.named.1, of.4 ∙ told.formed.0, of.5 ∙ told.formed.1));
       door_count = search rules;
       watcher_count = search rules;
     }

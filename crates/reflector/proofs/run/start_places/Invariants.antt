@@ -11,7 +11,7 @@ invariant-loop-sender g l = record {
   begun : map (λ place. place.promise.sender.value) l.places.items ++ into_iter_items l.sender-iterator ≡ l.fn.senders.items;
   doors : map (λ place. (place.promise.role, place.promise.door.value)) l.places.items ++ l.doors.items ≡ l.fn.doors.items;
   watchers : map (λ place. place.promise.watcher.value) l.places.items ++ l.watchers.items ≡ l.fn.watchers.items;
-  screen : All (λ place. IsOfScreen l.fn.screen.w l.fn.screen.h l.fn.screen.name l.fn.context.form l.fn.context.host place.promise.width place.promise.height place.promise.name.value.items place.promise.form place.promise.host) l.places.items;
+  screen : All (λ place. IsOfScreen l.fn.context.screen.w l.fn.context.screen.h l.fn.context.screen.name l.fn.context.form l.fn.context.host place.promise.width place.promise.height place.promise.name.value.items place.promise.form place.promise.host) l.places.items;
   door_count : length l.doors.items ≡ length (into_iter_items l.sender-iterator);
   watcher_count : length l.watchers.items ≡ length (into_iter_items l.sender-iterator);
 }
