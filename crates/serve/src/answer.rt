@@ -14,6 +14,7 @@ use crate::advice::Advice;
 use crate::bound::Ports;
 use crate::ended::{Ended, PlayedEnd, Served};
 use crate::journal::Journal;
+use crate::means::Means;
 use crate::metrics::{open_ports, run_watched};
 use crate::runtime::Runtime;
 use crate::sentry::Sentry;
@@ -128,17 +129,22 @@ where
     let Ok(journal) = log.journal().clone() else {
         return Served::without_a_run(Fault::Memory);
     };
-    let opened = open_ports(&rt, alloc, settings, ports, &log);
+    let means = Means {
+        rt: &rt,
+        alloc,
+        log: &log,
+    };
+    let opened = open_ports(&means, settings, ports);
     answer(
         &journal,
         settings,
         move || -> Result<Ended, Trouble>
             requires { HasPlaces settings.now
                 × IfOk opened (λ opened.
-                (is_some opened.password ≡ is_some settings.now.host_password)
-                × AreBoth settings.now opened.entrances.full opened.entrances.view
-                × (is_some opened.tape ≡ is_some settings.now.recording)) }
+                (is_some opened.run.password ≡ is_some settings.now.host_password)
+                × AreBoth settings.now opened.run.entrances.full opened.run.entrances.view
+                × (is_some opened.run.tape ≡ is_some settings.now.recording)) }
             ensures { IfOk result (λ ended. IsEndBy settings.entry.now ended) }
-        { run_watched(rt, alloc, settings, opened?, &log) },
+        { run_watched(&means, settings, opened?) },
     )
 }

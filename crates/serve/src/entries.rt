@@ -7,6 +7,7 @@ ghost use Rattle.serve.specs.Doors.{AreBoth, IsFullEntry};
 ghost use Rattle.serve.specs.Ports.{AsksForPeople, AsksFor, AsksForViewers};
 
 use crate::bound::Ports;
+use crate::means::Means;
 use crate::open::{RoleEntry, open};
 use crate::trouble::{Stage, Trouble};
 use crate::web::{files_of, open_webs};
@@ -34,12 +35,10 @@ fn desk_of(alloc: Global, settings: &Settings) -> Result<Arc<Desk, Global>, Trou
 
 /// Listens for the viewers with full control, unless there are only those who look on.
 fn open_full<'a, R: Net<Stream = TcpStream, Listener = TcpListener> + Files, G: Log>(
-    rt: &R,
-    alloc: Global,
+    means: &Means<'_, R, G>,
     settings: &'a Settings,
     ports: &mut Ports,
     desk: &Arc<Desk, Global>,
-    log: &G,
 ) -> Result<Option<RoleEntry<'a>>, Trouble>
     ensures asked { AsksFor Full settings.now ports.old ports.new }
     ensures closed { settings.now.view_only ≡ true → ports.new ≡ ports.old }
@@ -48,7 +47,7 @@ fn open_full<'a, R: Net<Stream = TcpStream, Listener = TcpListener> + Files, G: 
     if settings.view_only {
         return Ok(None);
     }
-    let full = open(rt, alloc, settings, ports, Role::Full, desk, log)?;
+    let full = open(means, settings, ports, Role::Full, desk)?;
     Ok(Some(full))
 }
 
@@ -56,18 +55,16 @@ fn open_full<'a, R: Net<Stream = TcpStream, Listener = TcpListener> + Files, G: 
 /// for no other port.
 #[tactic(auto, using(crate::proofs::Asking::first_alone, crate::proofs::Asking::both))]
 pub(crate) fn open_both<'a, R: Net<Stream = TcpStream, Listener = TcpListener> + Files, G: Log>(
-    rt: &R,
-    alloc: Global,
+    means: &Means<'_, R, G>,
     settings: &'a Settings,
     ports: &mut Ports,
-    log: &G,
 ) -> Result<(Option<RoleEntry<'a>>, RoleEntry<'a>), Trouble>
     ensures asked { AsksForViewers settings.now ports.old ports.new }
     ensures both { IfOk result (λ entries. AreBoth settings.now entries.0 entries.1) }
 {
-    let desk = desk_of(alloc, settings)?;
-    let full = open_full(rt, alloc, settings, ports, &desk, log)?;
-    let view = open(rt, alloc, settings, ports, Role::View, &desk, log)?;
+    let desk = desk_of(means.alloc, settings)?;
+    let full = open_full(means, settings, ports, &desk)?;
+    let view = open(means, settings, ports, Role::View, &desk)?;
     Ok((full, view))
 }
 
@@ -82,11 +79,9 @@ pub(crate) struct Entrances<'a> {
 /// Reads the files for browsers, and then listens for all.
 #[tactic(auto, using(crate::proofs::Asking::none, crate::proofs::Asking::viewers_alone, crate::proofs::Asking::all))]
 pub(crate) fn open_all<'a, R, G>(
-    rt: &R,
-    alloc: Global,
+    means: &Means<'_, R, G>,
     settings: &'a Settings,
     ports: &mut Ports,
-    log: &G,
 ) -> Result<Entrances<'a>, Trouble>
 where
     R: Net<Stream = TcpStream, Listener = TcpListener> + Files + AllocGlobal + Copy + Drop,
@@ -96,8 +91,8 @@ where
     ensures null { IfOk result (λ entrances.
         All (λ entry. ¬ (LetsNullIn entry)) entrances.web.items) }
 {
-    let files = files_of(*rt, alloc, settings)?;
-    let (full, view) = open_both(rt, alloc, settings, ports, log)?;
-    let web = open_webs(rt, alloc, settings, ports, (&full, &view), &files, log)?;
+    let files = files_of(*means.rt, means.alloc, settings)?;
+    let (full, view) = open_both(means, settings, ports)?;
+    let web = open_webs(means, settings, ports, (&full, &view), &files)?;
     Ok(Entrances { full, view, web })
 }

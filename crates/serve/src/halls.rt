@@ -9,6 +9,7 @@ ghost use Rattle.settings.specs.Rooms.{FitsInto};
 use crate::control::Control;
 use crate::entries::Entrances;
 use crate::incident::RunLog;
+use crate::means::Means;
 use crate::meet::{Met, Terms};
 use crate::rooms::{Hall, start_porter};
 use crate::runtime::Runtime;
@@ -96,18 +97,18 @@ fn hold<R: Wait>(rt: &R, entrances: &Entrances<'_>) {
 
 /// Starts the threads that let viewers in, and the one that hears an operator, if one may ask something.
 fn start_all<R, G>(
-    rt: R,
-    alloc: Global,
+    means: &Means<'_, R, G>,
     entrances: Entrances<'_>,
     seats: Vec<Arc<Seat, Global>>,
     control: Option<Control>,
-    log: &G,
 ) -> Result<Arc<Halls, Global>, Trouble>
 where
     R: Runtime,
     G: Log + Clone + Drop + Send + 'static,
 {
-    let halls = Halls::start(rt, alloc, entrances, seats, log)?;
+    let rt = *means.rt;
+    let alloc = means.alloc;
+    let halls = Halls::start(rt, alloc, entrances, seats, means.log)?;
     let Ok(halls) = Arc::new(alloc, halls) else {
         return Err(Trouble::new(Stage::Start, Fault::Memory));
     };
@@ -123,14 +124,12 @@ where
 /// Meets the first host, on these terms, and lets viewers in. Where that host is tried again, or calls, they are told
 /// until then that there is none yet; where it is tried once, they wait.
 pub(crate) fn welcome<R, G>(
-    rt: R,
-    alloc: Global,
+    means: &Means<'_, R, G>,
     supply: &mut Supply<R, G>,
     terms: &Terms,
     entrances: Entrances<'_>,
     seats: Vec<Arc<Seat, Global>>,
     control: Option<Control>,
-    log: &G,
 ) -> Result<(Met<R>, Arc<Halls, Global>), Trouble>
 where
     R: Runtime,
@@ -145,18 +144,18 @@ where
 {
     if !supply.waits() {
         let met = supply.first(terms)?;
-        let halls = start_all(rt, alloc, entrances, seats, control, log)?;
+        let halls = start_all(means, entrances, seats, control)?;
         return Ok((met, halls));
     }
-    hold(&rt, &entrances);
-    let halls = start_all(rt, alloc, entrances, seats, control, log)?;
+    hold(means.rt, &entrances);
+    let halls = start_all(means, entrances, seats, control)?;
     match supply.first(terms) {
         Ok(met) => {
-            halls.open(&rt);
+            halls.open(means.rt);
             Ok((met, halls))
         }
         Err(trouble) => {
-            halls.close(&rt);
+            halls.close(means.rt);
             Err(trouble)
         }
     }

@@ -24,6 +24,7 @@ mod host_text;
 mod incident;
 mod journal;
 mod lifeline;
+mod means;
 mod meet;
 mod metrics;
 mod noted_tries;

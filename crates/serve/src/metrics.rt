@@ -11,15 +11,16 @@ use crate::bound::Ports;
 use crate::callers::open_callers;
 use crate::counters::{Inputs, counters_of, inputs_of, places_by_role, recorded_of};
 use crate::ended::Ended;
-use crate::entries::{Entrances, open_all};
+use crate::entries::open_all;
 use crate::incident::{Incident, RunLog};
+use crate::means::Means;
 use crate::password::password_of;
-use crate::run::run;
+use crate::run::{OpenedRun, run};
 use crate::runtime::{REQUEST_STACK, Runtime};
 use crate::sentry::Sentry;
-use crate::tape::{Tape, standing_of, tape_of};
+use crate::tape::{standing_of, tape_of};
 use crate::trouble::{Stage, Trouble};
-use connections::{Desk, HostListener, RunCard};
+use connections::{Desk, RunCard};
 use fault::Fault;
 use metrics_site::{Watched, answer_one};
 use recorder::Recording;
@@ -37,7 +38,6 @@ use std::sync::{Arc, Wait};
 use std::thread::{Builder, Threads};
 use std::time::{Clock, Duration, Instant};
 use std::{io, thread};
-use vnc_auth::Password;
 
 /// A machine has so many seconds for its request, and to take the answer. One is answered after another.
 const PATIENCE_SECONDS: u64 = 2;
@@ -71,26 +71,20 @@ fn open_metrics<R: Net<Stream = TcpStream, Listener = TcpListener>, G: RunLog>(
     }
 }
 
-/// What a run begins with: the hosts' password, if one is known; its ports: where people come in, where machines are
-/// answered, if they are, and where hosts call, by their numbers; and the recording that is to be made, if one is.
+/// What a run begins with, and where machines are answered meanwhile, if they are.
 #[derive(Drop)]
 pub(crate) struct Opened<'a> {
-    pub(crate) password: Option<Password>,
-    pub(crate) entrances: Entrances<'a>,
+    pub(crate) run: OpenedRun<'a>,
     machines: Option<TcpListener>,
-    callers: Vec<Option<HostListener>>,
-    pub(crate) tape: Option<Tape>,
 }
 
 /// Reads the hosts' password, if there is one, then listens for people, for machines, and for hosts that call, and at
 /// last makes the files of the recording, if there is to be one.
 #[tactic(auto, using(crate::proofs::Asking::nobody, crate::proofs::Asking::people_alone, crate::proofs::Asking::machines_too, crate::proofs::Asking::with_hosts))]
 pub(crate) fn open_ports<'a, R, G>(
-    rt: &R,
-    alloc: Global,
+    means: &Means<'_, R, G>,
     settings: &'a Settings,
     ports: &mut Ports,
-    log: &G,
 ) -> Result<Opened<'a>, Trouble>
 where
     R: Net<Stream = TcpStream, Listener = TcpListener>
@@ -102,25 +96,26 @@ where
     G: RunLog,
     ensures asked { AsksForAll settings.now ports.old ports.new }
     ensures both { IfOk result (λ opened.
-        AreBoth settings.now opened.entrances.full opened.entrances.view) }
+        AreBoth settings.now opened.run.entrances.full opened.run.entrances.view) }
     ensures password { IfOk result (λ opened.
-        is_some opened.password ≡ is_some settings.now.host_password) }
+        is_some opened.run.password ≡ is_some settings.now.host_password) }
     ensures machines { IfOk result (λ opened.
         is_some opened.machines ≡ is_some settings.now.metrics) }
-    ensures tape { IfOk result (λ opened. is_some opened.tape ≡ is_some settings.now.recording) }
+    ensures tape { IfOk result (λ opened.
+        is_some opened.run.tape ≡ is_some settings.now.recording) }
 {
-    let password = password_of(rt, alloc, settings)?;
-    let entrances = open_all(rt, alloc, settings, ports, log)?;
-    let machines = open_metrics(rt, settings, ports, log)?;
-    let callers = open_callers(rt, alloc, settings, ports, log)?;
-    let tape = tape_of(rt, alloc, settings)?;
-    Ok(Opened {
+    let password = password_of(means.rt, means.alloc, settings)?;
+    let entrances = open_all(means, settings, ports)?;
+    let machines = open_metrics(means.rt, settings, ports, means.log)?;
+    let callers = open_callers(means.rt, means.alloc, settings, ports, means.log)?;
+    let tape = tape_of(means.rt, means.alloc, settings)?;
+    let run = OpenedRun {
         password,
         entrances,
-        machines,
         callers,
         tape,
-    })
+    };
+    Ok(Opened { run, machines })
 }
 
 /// What a machine is answered from, of a run that stands so, in which that has happened, with these places and inputs, and
@@ -198,12 +193,10 @@ impl<R: Eprint + Clock + Wait + Drop> Sources<R> {
 
 /// Starts the thread that answers machines, if there is a listener for them.
 fn start_metrics<R>(
-    rt: R,
-    alloc: Global,
+    means: &Means<'_, R, Sentry<R>>,
     settings: &Settings,
     listener: Option<TcpListener>,
     desk: &Arc<Desk, Global>,
-    sentry: &Sentry<R>,
     input: &Arc<InputCounts, Global>,
     recording: Option<Arc<Recording, Global>>,
 ) -> Result<(), Trouble>
@@ -213,13 +206,14 @@ where
     let Some(listener) = listener else {
         return Ok(());
     };
+    let rt = *means.rt;
     let Ok(desk) = Arc::try_clone(desk) else {
         return Err(Trouble::new(Stage::Start, Fault::Memory));
     };
     let Ok(input) = Arc::try_clone(input) else {
         return Err(Trouble::new(Stage::Start, Fault::Memory));
     };
-    let Ok(sentry) = sentry.clone() else {
+    let Ok(sentry) = means.log.clone() else {
         return Err(Trouble::new(Stage::Start, Fault::Memory));
     };
     let keys = match RandomState::new(&rt) {
@@ -227,7 +221,7 @@ where
         Err(error) => return Err(Trouble::of(Stage::Start, error)),
     };
     let sources = Sources {
-        alloc,
+        alloc: means.alloc,
         desk,
         sentry,
         input,
@@ -247,34 +241,27 @@ where
 /// Reflects the hosts of the settings for viewers that come in by these ports, and answers machines meanwhile, if there
 /// is a port for them.
 pub(crate) fn run_watched<R>(
-    rt: R,
-    alloc: Global,
+    means: &Means<'_, R, Sentry<R>>,
     settings: &Settings,
     opened: Opened<'_>,
-    log: &Sentry<R>,
 ) -> Result<Ended, Trouble>
 where
     R: Runtime + Eprint + Files<File = File>,
     requires places { HasPlaces settings.now }
-    requires password { is_some opened.password ≡ is_some settings.now.host_password }
-    requires entries { AreBoth settings.now opened.entrances.full opened.entrances.view }
-    requires tape { is_some opened.tape ≡ is_some settings.now.recording }
+    requires password { is_some opened.run.password ≡ is_some settings.now.host_password }
+    requires entries { AreBoth settings.now opened.run.entrances.full opened.run.entrances.view }
+    requires tape { is_some opened.run.tape ≡ is_some settings.now.recording }
     ensures { IfOk result (λ ended. IsEndBy settings.now ended) }
 {
     let Opened {
-        password,
-        entrances,
+        run: opened,
         machines,
-        callers,
-        tape,
     } = opened;
-    let Ok(input) = Arc::new(alloc, InputCounts::new()) else {
+    let Ok(input) = Arc::new(means.alloc, InputCounts::new()) else {
         return Err(Trouble::new(Stage::Start, Fault::Memory));
     };
-    let desk = entrances.view.lobby.desk();
-    let recording = standing_of(&tape)?;
-    start_metrics(rt, alloc, settings, machines, desk, log, &input, recording)?;
-    run(
-        rt, alloc, settings, password, entrances, callers, tape, input, log,
-    )
+    let desk = opened.entrances.view.lobby.desk();
+    let recording = standing_of(&opened.tape)?;
+    start_metrics(means, settings, machines, desk, &input, recording)?;
+    run(means, settings, opened, input)
 }

@@ -9,6 +9,7 @@ ghost use Rattle.serve.specs.Locks.{IsKeyFor};
 ghost use Rattle.serve.specs.Ports.{AsksFor};
 
 use crate::bound::{Bound, Ports};
+use crate::means::Means;
 use crate::password::key_of;
 use crate::trouble::{Stage, Trouble};
 use connections::{Desk, Key, Lobby};
@@ -63,13 +64,11 @@ pub(crate) fn announce<G: Log>(
 /// read before.
 #[tactic(auto, using(crate::proofs::Asking::asks_for))]
 pub(crate) fn open<'a, R: Net<Stream = TcpStream, Listener = TcpListener> + Files, G: Log>(
-    rt: &R,
-    alloc: Global,
+    means: &Means<'_, R, G>,
     settings: &'a Settings,
     ports: &mut Ports,
     role: Role,
     desk: &Arc<Desk, Global>,
-    log: &G,
 ) -> Result<RoleEntry<'a>, Trouble>
     ensures asked { AsksFor role settings.now ports.old ports.new }
     ensures settings { IfOk result (λ entry. entry.settings.now ≡ settings.now) }
@@ -80,6 +79,7 @@ pub(crate) fn open<'a, R: Net<Stream = TcpStream, Listener = TcpListener> + File
     ensures stalled { IfOk result (λ entry.
         (arc_value entry.lobby).stalled ≡ settings.now.stalled) }
 {
+    let alloc = means.alloc;
     let places = places_of(settings, role);
     let Ok(address) = address_of(settings, role) else {
         return Err(Trouble::new(Stage::ReadBind(role), Fault::LinkFailed));
@@ -87,8 +87,8 @@ pub(crate) fn open<'a, R: Net<Stream = TcpStream, Listener = TcpListener> + File
     let Ok(proxy) = proxy_of(settings) else {
         return Err(Trouble::new(Stage::ReadProxy, Fault::LinkFailed));
     };
-    let key = key_of(rt, alloc, settings, role)?;
-    let bound = match Bound::at(rt, ports, address, role, key, proxy) {
+    let key = key_of(means.rt, alloc, settings, role)?;
+    let bound = match Bound::at(means.rt, ports, address, role, key, proxy) {
         Ok(bound) => bound,
         Err(error) => return Err(Trouble::of(Stage::Listen(role), error)),
     };
@@ -101,7 +101,7 @@ pub(crate) fn open<'a, R: Net<Stream = TcpStream, Listener = TcpListener> + File
     let Ok(lobby) = Arc::new(alloc, lobby) else {
         return Err(Trouble::new(Stage::Start, Fault::Memory));
     };
-    announce(log, role, &key, address, places, Way::Tcp);
+    announce(means.log, role, &key, address, places, Way::Tcp);
     Ok(RoleEntry {
         settings,
         bound,

@@ -1,6 +1,7 @@
 //! A run, from its first port to its end.
 
-ghost use Rattle.std.specs.Prelude.{◌≡◌, ◌≤◌, true, false, None, All, IfOk, is_some, length, map};
+ghost use Rattle.std.specs.Prelude.{◌≡◌, ◌≤◌, ◌∷◌, true, false, None, All, IfOk, is_some, length, map};
+ghost use Rattle.std.specs.String.{string_bytes};
 ghost use Rattle.raster.specs.Size.{IsScreenSize};
 ghost use Rattle.host_turns.specs.Running.{goes_on};
 ghost use Rattle.link.specs.Joins.{Joins};
@@ -21,12 +22,13 @@ use crate::halls::welcome;
 use crate::host_end::HostEnd;
 use crate::host_text::texts_of;
 use crate::incident::RunLog;
+use crate::means::Means;
 use crate::meet::{Met, Terms};
 use crate::order::StopOrder;
 use crate::rooms::{Rooms, all_doors, everyone_of, rooms_of};
 use crate::runtime::Runtime;
-use crate::start::{control_of, lifeline_of, was_cut};
-use crate::supply::Supply;
+use crate::start::{RunReach, control_of, lifeline_of, was_cut};
+use crate::supply::{NamedHosts, Supply};
 use crate::tape::{Recorder, Tape, clear, recorder_of, standing_of};
 use crate::trouble::{Stage, Trouble};
 use crate::web::shared;
@@ -37,7 +39,7 @@ use host_turns::{Ending, HostEnds, RunScreen};
 use link::Rest;
 use play_control::Speed;
 use player::Player;
-use reflector::{InputCounts, Running, run_all};
+use reflector::{InputCounts, RunHosts, RunPlaces, RunShared, Running, run_all};
 use rfb_wire::Joined;
 use roles::Role;
 use run_traits::{Alarm, Door, Log};
@@ -45,8 +47,9 @@ use settings::{Settings, recording_path, room_of};
 use shared_screen::{Naming, Opened, Publishes};
 use std::alloc::{AllocError, Global};
 use std::marker::Brand;
-use std::sync::Arc;
-use viewer_session::AnswerForm;
+use std::net::{Net, TcpListener, TcpStream};
+use std::sync::{Arc, Wait};
+use std::time::Clock;
 use vnc_auth::Password;
 
 /// A recording's own speed.
@@ -59,14 +62,9 @@ fn over<J, D, B, W, G, R>(
     rt: R,
     room: RunScreen,
     history: Opened<J>,
-    ends: HostEnds<HostEnd<R>>,
-    joined: Joined,
-    supply: Supply<R, G>,
-    doors: Vec<(Role, D)>,
-    form: AnswerForm,
-    everyone: Arc<B, Global>,
-    writer: Arc<W, Global>,
-    input: Arc<InputCounts, Global>,
+    hosts: RunHosts<HostEnd<R>, Supply<R, G>>,
+    places: RunPlaces<D>,
+    shared: RunShared<B, W>,
 ) -> Result<Reflected, Fault>
 where
     J: Naming + Publishes + Send + Sync + 'static,
@@ -76,21 +74,23 @@ where
     G: RunLog + Drop + Send + 'static,
     R: Runtime,
     requires history { history.seen.book ≡ J.book }
-    requires fits { (joined.w ≤ room.width) × (joined.h ≤ room.height) }
+    requires fits { (hosts.joined.w ≤ room.width) × (hosts.joined.h ≤ room.height) }
     requires size { (room.width ≡ J.width) × (room.height ≡ J.height) }
-    requires doors { (1 ≤ length doors.items) × (length doors.items ≤ 65) }
-    requires roles { All (λ door. D.is_for door.1 door.0) doors.items }
-    requires joins { ∥ Joins room.password unused (end_state ends.reader) joined ∥₁ }
-    requires writer { end_state ends.writer ≡ unused }
+    requires doors { (1 ≤ length places.doors.items) × (length places.doors.items ≤ 65) }
+    requires roles { All (λ door. D.is_for door.1 door.0) places.doors.items }
+    requires joins { ∥ Joins room.password unused (end_state hosts.first.reader) hosts.joined ∥₁ }
+    requires writer { end_state hosts.first.writer ≡ unused }
     ensures reflected { IfOk result (λ run. IsReflected run.ran.course) }
     ensures room { IfOk result (λ run.
-        (run.ran.course.host ≡ joined) × (run.ran.course.room_width ≡ room.width)
+        (run.ran.course.host ≡ hosts.joined) × (run.ran.course.room_width ≡ room.width)
         × (run.ran.course.room_height ≡ room.height) × (run.ran.course.password ≡ room.password)) }
-    ensures roles { IfOk result (λ run. run.ran.course.roles ≡ map (λ door. door.0) doors.items) }
-    ensures form { IfOk result (λ run. run.ran.course.form ≡ form) }
+    ensures roles { IfOk result (λ run.
+        run.ran.course.roles ≡ map (λ door. door.0) places.doors.items) }
+    ensures form { IfOk result (λ run. run.ran.course.form ≡ places.form) }
     ensures last { IfOk result (λ run. run.last ≡ run.ran.course.last_end) }
     ensures never { IfOk result (λ run.
-        goes_on run.last ≡ true → endless (is_some supply.lifeline) supply.turns.again ≡ None) }
+        goes_on run.last ≡ true
+        → endless (is_some hosts.further.lifeline) hosts.further.turns.again ≡ None) }
 {
     let Running {
         ran,
@@ -103,9 +103,7 @@ where
         dropped: _dropped,
         written: _written,
         places: _places,
-    } = run_all::<J, _, _, D, B, W, R>(
-        rt, room, history, ends, joined, supply, doors, form, everyone, writer, input,
-    )?;
+    } = run_all::<J, _, _, D, B, W, R>(rt, room, history, hosts, places, shared)?;
     let played = supply.last_end;
     Ok(Reflected { last, played, ran })
 }
@@ -132,6 +130,15 @@ fn run_screen_of(
     }
 }
 
+/// The doors of a run's places, and where its threads wait.
+struct RunSeats<D: Door> {
+    /// The door of each place, with the place's role.
+    doors: Vec<(Role, D)>,
+    /// Where the thread of each place waits.
+    seats: Vec<Arc<Seat, Global>>,
+    writer: WriterReach,
+}
+
 /// Starts all threads, with a place behind each of these doors, and waits until the last host has ended. It hands out
 /// what reading or joining that host answered, with what shows that the run was run. Where the first host is to be
 /// tried again, no end of a host is the last. The first host's links have no deadline; with one, the run would end ten
@@ -142,9 +149,7 @@ fn reflect<D, G, R>(
     settings: &Settings,
     supply: Supply<R, G>,
     met: Met<R>,
-    doors: Vec<(Role, D)>,
-    seats: Vec<Arc<Seat, Global>>,
-    writer: WriterReach,
+    run_seats: RunSeats<D>,
 ) -> Result<Reflected, Fault>
 where
     D: Door + Send + 'static,
@@ -155,12 +160,17 @@ where
     requires password { is_some met.password ≡ is_some settings.now.host_password }
     requires untimed { (is_untimed met.reader ≡ true) × (is_untimed met.writer ≡ true) }
     requires places { HasPlaces settings.now }
-    requires doors { roles_in doors.items ≡ roles_for settings.now }
-    requires roles { All (λ door. D.is_for door.1 door.0) doors.items }
+    requires doors { roles_in run_seats.doors.items ≡ roles_for settings.now }
+    requires roles { All (λ door. D.is_for door.1 door.0) run_seats.doors.items }
     requires again { endless (is_some supply.lifeline) supply.turns.again
         ≡ endless (is_some settings.now.control) settings.now.again }
     ensures { IfOk result (λ run. IsRunBy settings.now run) }
 {
+    let RunSeats {
+        doors,
+        seats,
+        writer,
+    } = run_seats;
     let WriterReach { seat, input } = writer;
     let everyone = everyone_of(alloc, &seat, seats, supply.desk.count())?;
     let run_screen = run_screen_of(alloc, settings, &met.joined, met.password);
@@ -171,51 +181,72 @@ where
         joined,
         password: _,
     } = met;
-    over::<Brand, _, _, _, _, _>(
-        rt,
-        run_screen,
-        Opened::new(),
-        HostEnds {
+    let hosts = RunHosts {
+        first: HostEnds {
             reader,
             writer: told,
             has_called,
         },
         joined,
-        supply,
+        further: supply,
+    };
+    let places = RunPlaces {
         doors,
-        form_of(settings),
+        form: form_of(settings),
+    };
+    let shared = RunShared {
         everyone,
-        seat,
+        writer: seat,
         input,
-    )
+    };
+    over::<Brand, _, _, _, _, _>(rt, run_screen, Opened::new(), hosts, places, shared)
+}
+
+/// A run before its first host is met.
+struct Prepared<
+    'a,
+    R: Net<Stream = TcpStream, Listener = TcpListener> + Wait + Clock + Copy + Drop + Send,
+    G: RunLog + Drop + Send,
+> {
+    supply: Supply<R, G>,
+    /// The password that hosts may ask for, if one is known.
+    password: Option<Password>,
+    entrances: Entrances<'a>,
+    rooms: Rooms<R, G>,
+    recorder: Option<Recorder<R, G>>,
+    control: Option<Control>,
+    writer: WriterReach,
 }
 
 /// Joins the first host, and reflects it and those that follow on it until the last ends, in these rooms. Then the
 /// places are waited for, though not for long.
 fn reflect_all<G, R>(
-    rt: R,
-    alloc: Global,
+    means: &Means<'_, R, G>,
     settings: &Settings,
-    mut supply: Supply<R, G>,
-    password: Option<Password>,
-    entrances: Entrances<'_>,
-    rooms: Rooms<R, G>,
-    recorder: Option<Recorder<R, G>>,
-    control: Option<Control>,
-    writer: WriterReach,
-    log: &G,
+    prepared: Prepared<'_, R, G>,
 ) -> Result<Reflected, Trouble>
 where
     G: RunLog + Clone + Drop + Send + 'static,
     R: Runtime,
     requires places { HasPlaces settings.now }
-    requires doors { AreDoorsFor settings.now rooms.doors.items }
-    requires recorder { is_some recorder ≡ is_some settings.now.recording }
-    requires again { endless (is_some supply.lifeline) supply.turns.again
+    requires doors { AreDoorsFor settings.now prepared.rooms.doors.items }
+    requires recorder { is_some prepared.recorder ≡ is_some settings.now.recording }
+    requires again { endless (is_some prepared.supply.lifeline) prepared.supply.turns.again
         ≡ endless (is_some settings.now.control) settings.now.again }
-    requires password { is_some password ≡ is_some settings.now.host_password }
+    requires password { is_some prepared.password ≡ is_some settings.now.host_password }
     ensures { IfOk result (λ run. IsRunBy settings.now run) }
 {
+    let rt = *means.rt;
+    let alloc = means.alloc;
+    let Prepared {
+        mut supply,
+        password,
+        entrances,
+        rooms,
+        recorder,
+        control,
+        writer,
+    } = prepared;
     let Ok(seats) = shared(alloc, rooms.seats.as_slice()) else {
         return Err(Trouble::new(Stage::Start, Fault::Memory));
     };
@@ -226,17 +257,13 @@ where
         room: settings.room,
         password,
     };
-    let (met, halls) = welcome(
-        rt,
-        alloc,
-        &mut supply,
-        &terms,
-        entrances,
-        seats,
-        control,
-        log,
-    )?;
-    let reflected = reflect(rt, alloc, settings, supply, met, doors, all_seats, writer);
+    let (met, halls) = welcome(means, &mut supply, &terms, entrances, seats, control)?;
+    let run_seats = RunSeats {
+        doors,
+        seats: all_seats,
+        writer,
+    };
+    let reflected = reflect(rt, alloc, settings, supply, met, run_seats);
     halls.close(&rt);
     match reflected {
         Ok(reflected) => Ok(reflected),
@@ -278,6 +305,26 @@ fn player_of(alloc: Global, settings: &Settings) -> Result<Arc<Player, Global>, 
         Ok(player) => Ok(player),
         Err(_) => Err(Trouble::new(Stage::Start, Fault::Memory)),
     }
+}
+
+/// The hosts of the settings, of which those that call have these listeners.
+fn hosts_of(
+    alloc: Global,
+    settings: &Settings,
+    callers: Vec<Option<HostListener>>,
+) -> Result<NamedHosts, Trouble>
+    ensures texts { IfOk result (λ hosts. map string_bytes hosts.texts.items
+        ≡ string_bytes settings.now.host ∷ map string_bytes settings.now.next.items) }
+    ensures again { IfOk result (λ hosts. hosts.again ≡ settings.now.again) }
+{
+    let texts = texts_of(alloc, settings)?;
+    let player = player_of(alloc, settings)?;
+    Ok(NamedHosts {
+        texts,
+        callers,
+        player,
+        again: settings.again,
+    })
 }
 
 /// Whether one of the hosts is a recording.
@@ -346,69 +393,84 @@ fn end_of(
     })
 }
 
-/// Reflects the hosts of the settings, of which this password may be known, for viewers who come in by these entries,
-/// one for each role that is served, until the last host ends or an operator stops the run, if one can. `callers` has a
-/// listener at the number of each host that calls. `tape` is the recording that is to be made, if one is. `input` tells
-/// how much of the viewers' input waits. It hands out how the run ended, or fails where there was trouble before.
+/// What a run begins with.
+#[derive(Drop)]
+pub(crate) struct OpenedRun<'a> {
+    /// The password that hosts may ask for, if one is known.
+    pub(crate) password: Option<Password>,
+    /// Where viewers come in.
+    pub(crate) entrances: Entrances<'a>,
+    /// Where hosts call, by their numbers: none where a host is connected to.
+    pub(crate) callers: Vec<Option<HostListener>>,
+    /// The recording that is to be made, if one is.
+    pub(crate) tape: Option<Tape>,
+}
+
+/// Reflects the hosts of the settings for viewers who come in by the entries that were opened, one for each role that
+/// is served, until the last host ends or an operator stops the run, if one can. `input` tells how much of the viewers'
+/// input waits. It hands out how the run ended, or fails where there was trouble before.
 #[tactic(auto, using(crate::proofs::Stopping::stopped))]
 pub(crate) fn run<G, R>(
-    rt: R,
-    alloc: Global,
+    means: &Means<'_, R, G>,
     settings: &Settings,
-    password: Option<Password>,
-    entrances: Entrances<'_>,
-    callers: Vec<Option<HostListener>>,
-    tape: Option<Tape>,
+    opened: OpenedRun<'_>,
     input: Arc<InputCounts, Global>,
-    log: &G,
 ) -> Result<Ended, Trouble>
 where
     G: RunLog + Clone + Drop + Send + 'static,
     R: Runtime,
     requires places { HasPlaces settings.now }
-    requires password { is_some password ≡ is_some settings.now.host_password }
-    requires tape { is_some tape ≡ is_some settings.now.recording }
-    requires entries { AreBoth settings.now entrances.full entrances.view }
+    requires password { is_some opened.password ≡ is_some settings.now.host_password }
+    requires tape { is_some opened.tape ≡ is_some settings.now.recording }
+    requires entries { AreBoth settings.now opened.entrances.full opened.entrances.view }
     ensures { IfOk result (λ ended. IsEndBy settings.now ended) }
 {
-    let hosts = texts_of(alloc, settings)?;
-    let rooms = rooms_of(rt, alloc, settings, &entrances.full, &entrances.view, log)?;
-    let Ok(
-        Common {
-            desk,
-            writer,
-            log: theirs,
-        },
-    ) = Common::new(alloc, &entrances, input, log)
-    else {
+    let rt = *means.rt;
+    let alloc = means.alloc;
+    let OpenedRun {
+        password,
+        entrances,
+        callers,
+        tape,
+    } = opened;
+    let hosts = hosts_of(alloc, settings, callers)?;
+    let rooms = rooms_of(
+        rt,
+        alloc,
+        settings,
+        &entrances.full,
+        &entrances.view,
+        means.log,
+    )?;
+    let Ok(Common { desk, writer, log }) = Common::new(alloc, &entrances, input, means.log) else {
         return Err(Trouble::new(Stage::Start, Fault::Memory));
     };
-    let player = player_of(alloc, settings)?;
-    let standing = standing_of(&tape)?;
-    let control = match control_of(&rt, alloc, settings, &desk, &writer, &player, standing) {
+    let reach = RunReach {
+        desk: &desk,
+        writer: &writer,
+        player: &hosts.player,
+        recording: standing_of(&tape)?,
+    };
+    let control = match control_of(&rt, alloc, settings, reach) {
         Ok(control) => control,
         Err(trouble) => {
             clear(&rt, &tape);
             return Err(trouble);
         }
     };
-    let (recorder, keeper) = recorder_of(rt, alloc, settings, tape, log)?;
+    let (recorder, keeper) = recorder_of(rt, alloc, settings, tape, means.log)?;
     let lifeline = lifeline_of(&control)?;
     let held = lifeline_of(&control)?;
-    let supply = Supply::new(
-        rt,
-        alloc,
-        theirs,
-        desk,
-        hosts,
-        callers,
-        player,
-        settings.again,
-        held,
-    );
-    let reflected = reflect_all(
-        rt, alloc, settings, supply, password, entrances, rooms, recorder, control, writer, log,
-    );
+    let prepared = Prepared {
+        supply: Supply::new(rt, alloc, log, desk, hosts, held),
+        password,
+        entrances,
+        rooms,
+        recorder,
+        control,
+        writer,
+    };
+    let reflected = reflect_all(means, settings, prepared);
     if let Some(keeper) = keeper {
         keeper.close(&rt);
     }

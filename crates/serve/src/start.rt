@@ -23,19 +23,34 @@ use std::rt::Files;
 use std::sync::{Arc, Wait};
 use std::thread::Builder;
 
-/// What the requests of an operator reach. The operator is heard at this listener, and may end the run by a new
-/// lifeline.
+/// What of a run the requests of an operator reach.
+#[derive(Drop)]
+pub(crate) struct RunReach<'a> {
+    /// The doors of all places.
+    pub(crate) desk: &'a Arc<Desk, Global>,
+    pub(crate) writer: &'a WriterReach,
+    /// What plays the hosts that are recordings.
+    pub(crate) player: &'a Arc<Player, Global>,
+    /// How the run's own recording stands, if there is one.
+    pub(crate) recording: Option<Arc<Recording, Global>>,
+}
+
+/// What hears an operator, whose requests reach this of a run. The operator is heard at this listener, and may end the
+/// run by a new lifeline.
 fn prepared(
     alloc: Global,
     listener: UnixListener,
     settings: &Settings,
-    desk: &Arc<Desk, Global>,
-    writer: &WriterReach,
-    player: &Arc<Player, Global>,
-    recording: Option<Arc<Recording, Global>>,
+    reach: RunReach<'_>,
 ) -> Result<Control, AllocError>
     ensures { IfOk result (λ control. HasPlacesFor settings.now control) }
 {
+    let RunReach {
+        desk,
+        writer,
+        player,
+        recording,
+    } = reach;
     Ok(Control {
         listener,
         desk: Arc::try_clone(desk)?,
@@ -48,16 +63,12 @@ fn prepared(
     })
 }
 
-/// Listens for an operator, if the settings have a path for it. Requests reach the desk of the run, the hosts' writer,
-/// what plays hosts that are recordings, and how the run's own recording stands, if there is one.
+/// Listens for an operator, if the settings have a path for it. Requests reach this of the run.
 pub(crate) fn control_of<R: Files + Net>(
     rt: &R,
     alloc: Global,
     settings: &Settings,
-    desk: &Arc<Desk, Global>,
-    writer: &WriterReach,
-    player: &Arc<Player, Global>,
-    recording: Option<Arc<Recording, Global>>,
+    reach: RunReach<'_>,
 ) -> Result<Option<Control>, Trouble>
     ensures heard { IfOk result (λ control. is_some control ≡ is_some settings.now.control) }
     ensures places { IfOk result (λ control. IfSome control (λ c. HasPlacesFor settings.now c)) }
@@ -69,7 +80,7 @@ pub(crate) fn control_of<R: Files + Net>(
         Ok(listener) => listener,
         Err(error) => return Err(Trouble::of(Stage::Control, error)),
     };
-    match prepared(alloc, listener, settings, desk, writer, player, recording) {
+    match prepared(alloc, listener, settings, reach) {
         Ok(control) => Ok(Some(control)),
         Err(_) => Err(Trouble::new(Stage::Start, Fault::Memory)),
     }

@@ -39,6 +39,19 @@ use std::{io, thread};
 /// For how long nobody is waited for after the system refused a call, in milliseconds.
 const PAUSE_MILLIS: u64 = 100;
 
+/// The hosts of a run, as its settings name them.
+#[derive(Drop)]
+pub(crate) struct NamedHosts {
+    /// The texts that say where the hosts are, by their numbers.
+    pub(crate) texts: Vec<String>,
+    /// Where hosts call, by their numbers: none where a host is connected to.
+    pub(crate) callers: Vec<Option<HostListener>>,
+    /// What plays the hosts that are recordings.
+    pub(crate) player: Arc<Player, Global>,
+    /// The number of seconds after which the first has its turn again, once all the others had theirs, if at all.
+    pub(crate) again: Option<u64>,
+}
+
 /// The hosts over TCP, in their order. One that can't be reached is passed over. The log is told of the tries of a
 /// round as `NotedTries` says.
 #[derive(Drop)]
@@ -86,24 +99,27 @@ impl<
 > Supply<R, G> {
     ghost use Rattle.raster.specs.Size.{IsScreenSize};
 
-    /// The first of these hosts has its turn. It has its turn again so many seconds after all the others had theirs, if
-    /// at all. Where there is a lifeline the run ends once that was cut.
+    /// The first of these hosts has its turn. Where there is a lifeline the run ends once that was cut.
     pub(crate) fn new(
         rt: R,
         alloc: Global,
         log: G,
         desk: Arc<Desk, Global>,
-        texts: Vec<String>,
-        callers: Vec<Option<HostListener>>,
-        player: Arc<Player, Global>,
-        again: Option<u64>,
+        hosts: NamedHosts,
         lifeline: Option<Arc<Lifeline<StopOrder, SkipOrder>, Global>>,
     ) -> Supply<R, G>
-        ensures texts { result.texts ≡ texts }
-        ensures hosts { (result.turns.further ≡ length texts.items - 1) × (result.turns.done ≡ 0) }
-        ensures again { result.turns.again ≡ again }
+        ensures texts { result.texts ≡ hosts.texts }
+        ensures hosts { (result.turns.further ≡ length hosts.texts.items - 1)
+            × (result.turns.done ≡ 0) }
+        ensures again { result.turns.again ≡ hosts.again }
         ensures lifeline { is_some result.lifeline ≡ is_some lifeline }
     {
+        let NamedHosts {
+            texts,
+            callers,
+            player,
+            again,
+        } = hosts;
         let further = texts.len().saturating_sub(1);
         Supply {
             rt,

@@ -10,6 +10,7 @@ ghost use Rattle.serve.specs.Origins.{IsAnOrigin};
 ghost use Rattle.serve.specs.Ports.{AsksForBrowsers, AsksForWeb};
 
 use crate::bound::{Bound, Ports};
+use crate::means::Means;
 use crate::open::{RoleEntry, announce};
 use crate::origins::{admission_of, first_bad};
 use crate::runtime::{REQUEST_STACK, Runtime};
@@ -97,14 +98,12 @@ fn site_of(
 /// Listens for the browsers of this entry's role, if there is a port for them, and tells the log where.
 #[tactic(auto, using(crate::proofs::Asking::asks_for_web))]
 fn open_web<R: Net<Stream = TcpStream, Listener = TcpListener>, G: Log>(
-    rt: &R,
-    alloc: Global,
+    means: &Means<'_, R, G>,
     settings: &Settings,
     ports: &mut Ports,
     role: Role,
     entry: &RoleEntry<'_>,
     files: &Arc<FileTable, Global>,
-    log: &G,
 ) -> Result<Option<WebEntry>, Trouble>
     requires { IsEntryFor role settings.now entry.now }
     ensures asked { AsksForWeb role settings.now ports.old ports.new }
@@ -117,7 +116,7 @@ fn open_web<R: Net<Stream = TcpStream, Listener = TcpListener>, G: Log>(
     let Ok(address) = web_address_of(settings, role, port) else {
         return Err(Trouble::new(Stage::ReadBind(role), Fault::LinkFailed));
     };
-    let Ok(site) = site_of(alloc, settings, role, address, files) else {
+    let Ok(site) = site_of(means.alloc, settings, role, address, files) else {
         return Err(Trouble::new(Stage::Start, Fault::Memory));
     };
     let Ok(lobby) = Arc::try_clone(&entry.lobby) else {
@@ -127,14 +126,14 @@ fn open_web<R: Net<Stream = TcpStream, Listener = TcpListener>, G: Log>(
         return Err(Trouble::new(Stage::ReadProxy, Fault::LinkFailed));
     };
     let key = lobby.key();
-    let bound = match Bound::at(rt, ports, address, role, key, proxy) {
+    let bound = match Bound::at(means.rt, ports, address, role, key, proxy) {
         Ok(bound) => bound,
         Err(error) => return Err(Trouble::of(Stage::ListenWeb(role), error)),
     };
     match WebEntry::new(bound.into_listener(), site, lobby) {
         Ok(web) => {
             let places = places_of(settings, role);
-            announce(log, role, &key, address, places, Way::Web);
+            announce(means.log, role, &key, address, places, Way::Web);
             Ok(Some(web))
         }
         Err(error) => Err(Trouble::of(Stage::ListenWeb(role), error)),
@@ -157,13 +156,11 @@ fn add(ports: &mut Vec<WebEntry>, port: Option<WebEntry>) -> Result<(), Trouble>
 
 /// The web port of those with full control, if they have an entry.
 fn open_full_web<R: Net<Stream = TcpStream, Listener = TcpListener>, G: Log>(
-    rt: &R,
-    alloc: Global,
+    means: &Means<'_, R, G>,
     settings: &Settings,
     ports: &mut Ports,
     full: &Option<RoleEntry<'_>>,
     files: &Arc<FileTable, Global>,
-    log: &G,
 ) -> Result<Option<WebEntry>, Trouble>
     requires { IsFullEntry settings.now full.now }
     ensures asked { AsksForWeb Full settings.now ports.old ports.new }
@@ -171,7 +168,7 @@ fn open_full_web<R: Net<Stream = TcpStream, Listener = TcpListener>, G: Log>(
         IsWebEntryFor Full settings.now (arc_value files.now) entry)) }
 {
     match full {
-        Some(entry) => open_web(rt, alloc, settings, ports, Role::Full, entry, files, log),
+        Some(entry) => open_web(means, settings, ports, Role::Full, entry, files),
         None => Ok(None),
     }
 }
@@ -179,13 +176,11 @@ fn open_full_web<R: Net<Stream = TcpStream, Listener = TcpListener>, G: Log>(
 /// Listens for the browsers with full control, and then for those that only look on, where there are ports for them.
 #[tactic(auto, using(crate::proofs::Asking::first_web_alone, crate::proofs::Asking::both_webs))]
 pub(crate) fn open_webs<R: Net<Stream = TcpStream, Listener = TcpListener>, G: Log>(
-    rt: &R,
-    alloc: Global,
+    means: &Means<'_, R, G>,
     settings: &Settings,
     ports: &mut Ports,
     entries: (&Option<RoleEntry<'_>>, &RoleEntry<'_>),
     files: &Arc<FileTable, Global>,
-    log: &G,
 ) -> Result<Vec<WebEntry>, Trouble>
     requires { AreBoth settings.now entries.0.now entries.1.now }
     ensures asked { AsksForBrowsers settings.now ports.old ports.new }
@@ -193,10 +188,10 @@ pub(crate) fn open_webs<R: Net<Stream = TcpStream, Listener = TcpListener>, G: L
         AreWebEntries settings.now (arc_value files.now) web.items) }
 {
     let (full, view) = entries;
-    let mut web = Vec::new(alloc);
-    let entry = open_full_web(rt, alloc, settings, ports, full, files, log)?;
+    let mut web = Vec::new(means.alloc);
+    let entry = open_full_web(means, settings, ports, full, files)?;
     add(&mut web, entry)?;
-    let entry = open_web(rt, alloc, settings, ports, Role::View, view, files, log)?;
+    let entry = open_web(means, settings, ports, Role::View, view, files)?;
     add(&mut web, entry)?;
     Ok(web)
 }

@@ -7,7 +7,7 @@ use Rattle.serve.proofs.Stopping.{may_end}
 use Rattle.serve.proofs.run.reflect.Goals as goal
 
 pub over-requires-clause-doors : goal.over-requires-clause-doors
-over-requires-clause-doors g c κs _ = counted_all (λ door. door.0) c.args.doors.items c.args.settings.now (is_some c.args.settings.now.recording) c.requires.doors c.requires.places
+over-requires-clause-doors g c κs _ = counted_all (λ door. door.0) c.args.run_seats.doors.items c.args.settings.now (is_some c.args.settings.now.recording) c.requires.doors c.requires.places
 
 pub returns : goal.returns
 returns g c =
