@@ -28,6 +28,13 @@ pub struct RecordingFiles<F: Write + Drop> {
     pub index: F,
 }
 
+/// Where it is told how a recording stands: to those who read that while it is made, and to its log.
+#[derive(Drop)]
+pub struct RecordingReports<N: RecordingLog> {
+    pub recording: Arc<Recording, Global>,
+    pub log: N,
+}
+
 /// The door of the place in which a run is recorded. One viewer comes through it, which looks on, and whose link writes
 /// the recording; when that has left, none comes any more.
 #[derive(Drop)]
@@ -60,9 +67,9 @@ impl<R: Wait + Clock + Copy + Drop, F: Write + Drop, N: RecordingLog> RecorderDo
         files: RecordingFiles<F>,
         key_every: u32,
         seat: Arc<Seat, Global>,
-        recording: Arc<Recording, Global>,
-        log: N,
+        reports: RecordingReports<N>,
     ) -> Result<RecorderDoor<R, F, N>, AllocError> {
+        let RecordingReports { recording, log } = reports;
         let watch = RecorderWatch::new(rt, Arc::try_clone(&seat)?);
         let counted = Some(Arc::try_clone(&recording)?);
         let file = RecordedFile::new(files.recording, counted);

@@ -10,7 +10,7 @@ mod news;
 mod standing;
 mod watch;
 
-pub use door::{RecorderDoor, RecorderLink, RecordingFiles};
+pub use door::{RecorderDoor, RecorderLink, RecordingFiles, RecordingReports};
 pub use file::RecordedFile;
 pub use news::{EndReason, RecordingEnd, RecordingLog, RecordingNews};
 pub use standing::{Recording, Standing};

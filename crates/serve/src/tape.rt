@@ -7,7 +7,9 @@ use crate::trouble::{Stage, Trouble};
 use connections::Seat;
 use fault::Fault;
 use jiff::Timestamp;
-use recorder::{RecorderDoor, Recording, RecordingFiles, RecordingLog, RecordingNews};
+use recorder::{
+    RecorderDoor, Recording, RecordingFiles, RecordingLog, RecordingNews, RecordingReports,
+};
 use settings::Settings;
 use std::alloc::{AllocError, Global};
 use std::fs::File;
@@ -193,9 +195,12 @@ where
         recording,
     } = tape;
     let seat = Arc::new(alloc, seat)?;
-    let notes = RecordingNotes {
-        log: log.clone()?,
-        path: paths.recording.clone()?,
+    let reports = RecordingReports {
+        recording: Arc::try_clone(&recording)?,
+        log: RecordingNotes {
+            log: log.clone()?,
+            path: paths.recording.clone()?,
+        },
     };
     let door = RecorderDoor::new(
         rt,
@@ -203,8 +208,7 @@ where
         files,
         key_millis(settings),
         Arc::try_clone(&seat)?,
-        Arc::try_clone(&recording)?,
-        notes,
+        reports,
     )?;
     Ok((Recorder { door, seat }, Keeper { paths, recording }))
 }
