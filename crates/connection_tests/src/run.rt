@@ -101,7 +101,7 @@ where
         links: _,
         hosts: _,
         publisher: _,
-        written: _,
+        told_links: _,
         taker: _,
         strokes: _,
         dropped: _,

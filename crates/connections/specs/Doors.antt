@@ -5,7 +5,7 @@ use Rattle.fault.specs.declared.kinds.Fault.{Fault}
 use Rattle.link.specs.Links.{LinkState}
 use Rattle.roles.specs.declared.role.Role.{Role}
 use Rattle.run_traits.specs.Unused.{unused}
-use Rattle.run_traits.specs.Written.{links_in}
+use Rattle.run_traits.specs.LinkTrails.{links_in}
 use Rattle.connections.specs.Browsers.{viewer_state}
 use Rattle.connections.specs.declared.lobby.TcpDoor.{TcpDoor}
 

@@ -19,7 +19,7 @@ use link::{EitherLink, Link};
 use roles::Role;
 use run_control::Entry;
 use run_traits::{
-    Door, Event, LeftLink, Log, Parting, PlaceCount, PlaceId, VisitSummary, Way, Written,
+    Door, Event, LeftLink, LinkTrail, Log, Parting, PlaceCount, PlaceId, VisitSummary, Way,
 };
 use std::alloc::{AllocError, Global};
 use std::io;
@@ -239,7 +239,7 @@ pub struct TcpDoor<R: Wait + Clock + Drop, G: Log + Drop> {
     address: Option<SocketAddr>,
     way: Way,
     // The links of the viewers that were let in. Only clauses read it.
-    links: Written<ViewerLink<R>>,
+    links: LinkTrail<ViewerLink<R>>,
 }
 
 impl<R: Wait + Clock + Drop, G: Log + Drop> TcpDoor<R, G> {
@@ -264,7 +264,7 @@ impl<R: Wait + Clock + Drop, G: Log + Drop> TcpDoor<R, G> {
             has_served: false,
             address: None,
             way: Way::Tcp,
-            links: Written::new(),
+            links: LinkTrail::new(),
         }
     }
 

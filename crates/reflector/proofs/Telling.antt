@@ -1,4 +1,4 @@
--- What the hosts were told, as far as it has come. The steps of a teller and `write` owe it.
+-- What the hosts were told, as far as it has come. The steps of a teller and `tell_each` owe it.
 use Rattle.std.proofs.Common.{◌≡◌, ℕ, ◌<◌, List, [], ◌∷◌, ◌++◌, Result, length, slice_index_or, sym, ap, subst, ◌∙◌, append_assoc}
 use Rattle.std.specs.Prelude.{⊤}
 use Rattle.std.specs.List.{All}

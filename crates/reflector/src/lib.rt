@@ -35,7 +35,7 @@ pub use law::{
 pub use place::{OfPlace, Place, PlaceHandle};
 pub use ran::Ran;
 pub use run::{Running, run_all};
-pub use run_traits::Written;
+pub use run_traits::LinkTrail;
 pub use session_maker::SessionMaker;
 pub use stages::{BusyPlace, FreePlace, LeftPlace, MetPlace, PlaceBeginning, PlaceKey};
 pub use teller::{BusyTeller, FreeTeller, TellerBeginning, TellerKey};

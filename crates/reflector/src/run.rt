@@ -11,7 +11,7 @@ ghost use Rattle.shared_screen.specs.Reaches.{Reaches};
 ghost use Rattle.host_writer.specs.Dropping.{IsCounted, all_dropped};
 ghost use Rattle.host_writer.specs.Writing.{taken_from};
 ghost use Rattle.reflector.specs.Tellings.{AreToldInTurn, HasTold, TellsHosts, desk};
-ghost use Rattle.run_traits.specs.Written.{links_in};
+ghost use Rattle.run_traits.specs.LinkTrails.{links_in};
 ghost use Rattle.shared_screen.specs.History.{puts_of};
 ghost use Rattle.host_turns.specs.Running.{HasRun, IsComing, IsOver, came_over, goes_on};
 ghost use Rattle.run_traits.specs.Unused.{unused};
@@ -32,7 +32,7 @@ use raster::Size;
 use reflect_core::{Puts, ScreenSource};
 use rfb_wire::Joined;
 use roles::{Role, Strokes};
-use run_traits::{Alarm, Door, Stop, Written};
+use run_traits::{Alarm, Door, LinkTrail, Stop};
 use shared_screen::{Naming, Opened, Publisher, Publishes, Watcher};
 use std::alloc::Global;
 use std::marker::Brand;
@@ -55,7 +55,7 @@ pub struct Running<L, H, P, S: ScreenSource, D: Door, R: Wait + Drop> {
     /// The screen, with all that was put.
     pub publisher: P,
     /// The links over which the hosts were told, in turn: each as it came, and then as it was left.
-    pub written: Written<L>,
+    pub told_links: LinkTrail<L>,
     /// What took the viewers' input.
     pub taker: Taker<R>,
     /// Whose key or button is down after all that was taken, and how many inputs of each place were dropped.
@@ -72,7 +72,7 @@ struct Left<L, H, P, S: ScreenSource, D: Door, R: Wait + Drop> {
     links: Vec<L>,
     hosts: H,
     publisher: P,
-    written: Written<L>,
+    told_links: LinkTrail<L>,
     taker: Taker<R>,
     strokes: Strokes,
     dropped: u64,
@@ -255,7 +255,7 @@ where
         → IsCounted (taken_of result.taker) result.strokes result.dropped }
     ensures told { HasTold S.looks S.width S.height (desk [] started.writer.promise.source.value
         (taken_of started.writer.promise.taker.value) started.writer.promise.strokes.value)
-        (links_in L.state result.written) (taken_of result.taker) result.strokes }
+        (links_in L.state result.told_links) (taken_of result.taker) result.strokes }
     ensures places { result.places ≡ started.places }
 {
     let Started {
@@ -271,7 +271,7 @@ where
     } = reader.join(&context.rt);
     context.stop.set();
     let HostsTold {
-        written,
+        told_links,
         taker,
         strokes,
         dropped,
@@ -281,7 +281,7 @@ where
         links,
         hosts,
         publisher,
-        written,
+        told_links,
         taker,
         strokes,
         dropped,
@@ -348,7 +348,7 @@ where
     ensures counted { IfOk result (λ run. IsCounted (taken_of run.taker) run.strokes run.dropped) }
     ensures told { IfOk result (λ run.
         (source : S) × (source ≡ slice_index_or watchers.items 0 source)
-        × TellsHosts S.looks S.width S.height source (links_in L.state run.written)
+        × TellsHosts S.looks S.width S.height source (links_in L.state run.told_links)
         (taken_of run.taker) run.strokes) }
     ensures doors { IfOk result (λ run.
         map (λ place. (place.promise.role, place.promise.door.value)) run.places.items
@@ -432,7 +432,7 @@ where
       last_end = left.last;
       came = came_over began.now.has_called (L.state began.now.link.value);
       links = map L.state left.links.items;
-      told = links_in L.state left.written;
+      told = links_in L.state left.told_links;
       taken = taken_of left.taker;
       updates = puts_of left.publisher.changes;
     } }
@@ -441,7 +441,7 @@ where
     ensures links { result.links ≡ left.links }
     ensures hosts { result.hosts ≡ left.hosts }
     ensures publisher { result.publisher ≡ left.publisher }
-    ensures written { result.written ≡ left.written }
+    ensures told_links { result.told_links ≡ left.told_links }
     ensures taker { result.taker ≡ left.taker }
     ensures strokes { result.strokes ≡ left.strokes }
     ensures dropped { result.dropped ≡ left.dropped }
@@ -452,7 +452,7 @@ where
         links,
         hosts,
         publisher,
-        written,
+        told_links,
         taker,
         strokes,
         dropped,
@@ -464,7 +464,7 @@ where
         links,
         hosts,
         publisher,
-        written,
+        told_links,
         taker,
         strokes,
         dropped,
@@ -498,8 +498,8 @@ where
 ///
 /// `shared.everyone`, the alarm of all that wait for news, including the hosts' writer, is rung after each put.
 /// `shared.writer` is rung after each input. The hosts' writer goes on with each host that is read; what was cut short
-/// at the end of one host isn't written again. Meanwhile `shared.input` tells how many inputs wait, and how many
-/// weren't told.
+/// at the end of one host isn't told again. Meanwhile `shared.input` tells how many inputs wait, and how many
+/// were dropped.
 ///
 /// No other call hands out what shows that a run was run. So a caller further up, which is handed that alone, knows
 /// that there was a run, and what it was (`ran`).
@@ -543,10 +543,10 @@ where
         All (λ place. relay_of place.promise.sender.value ≡ host_of run.taker) run.places.items) }
     ensures told { IfOk result (λ run.
         TellsHosts (λ old reply new. Reaches old (step.Look reply ∷ []) new)
-        (λ _. J.width) (λ _. J.height) nothing_put (links_in L.state run.written)
+        (λ _. J.width) (λ _. J.height) nothing_put (links_in L.state run.told_links)
         (taken_of run.taker) run.strokes) }
     ensures in_turn { IfOk result (λ run.
-        AreToldInTurn J.width J.height [] (links_in L.state run.written) (taken_of run.taker)) }
+        AreToldInTurn J.width J.height [] (links_in L.state run.told_links) (taken_of run.taker)) }
     ensures strokes { IfOk result (λ run.
         StrokesStand run.strokes (map taken_from (taken_of run.taker))) }
     ensures dropped { IfOk result (λ run.
@@ -571,7 +571,7 @@ where
       last_end = run.last;
       came = came_over hosts.first.has_called (L.state hosts.first.reader);
       links = map L.state run.links.items;
-      told = links_in L.state run.written;
+      told = links_in L.state run.told_links;
       taken = taken_of run.taker;
       updates = puts_of run.publisher.changes;
     }) }

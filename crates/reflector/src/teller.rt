@@ -10,7 +10,7 @@ ghost use Rattle.host_writer.specs.Dropping.{IsCounted};
 ghost use Rattle.host_writer.specs.Saying.{begun};
 ghost use Rattle.host_writer.specs.Writing.{Tells, whole_request};
 ghost use Rattle.reflector.specs.Tellings.{AreToldInTurn, HasTold, IsTelling, desk};
-ghost use Rattle.run_traits.specs.Written.{links_in};
+ghost use Rattle.run_traits.specs.LinkTrails.{links_in};
 
 use crate::handover_taker::CameLink;
 use fault::Fault;
@@ -18,7 +18,7 @@ use host_writer::{DropCount, InputSource, TellBeginning, Telling};
 use link::Link;
 use reflect_core::ScreenSource;
 use roles::Strokes;
-use run_traits::Written;
+use run_traits::LinkTrail;
 use std::marker::PhantomData;
 use std::snapshot::Snapshot;
 
@@ -75,7 +75,7 @@ pub struct FreeTeller<'a, L: Link, S: ScreenSource, K: InputSource, D: DropCount
     taker: K,
     strokes: Strokes,
     drops: D,
-    written: Written<L>,
+    told_links: LinkTrail<L>,
     // How it all began. It is lent, so no step can put another beginning in its place.
     first: &'a TellerBeginning<S, K, D>,
     key: PhantomData<T>,
@@ -85,13 +85,13 @@ pub struct FreeTeller<'a, L: Link, S: ScreenSource, K: InputSource, D: DropCount
         → IsCounted (K.taken taker) strokes (D.dropped drops)) ∥₁ },
     ghost lawful: { ∥ IsTelling S.looks S.width S.height
         (desk [] first.now.source.value (K.taken first.now.taker.value) first.now.strokes.value)
-        (desk (links_in L.state written) source (K.taken taker) strokes) ∥₁ },
+        (desk (links_in L.state told_links) source (K.taken taker) strokes) ∥₁ },
 }
 
 /// A teller while a host is told. The host's telling has all the rest: its link, the source, the taker, the strokes and
 /// the count.
 pub struct BusyTeller<'a, 'b, L: Link, S: ScreenSource, K: InputSource, D: DropCount, T: Drop> {
-    written: Written<L>,
+    told_links: LinkTrail<L>,
     // How the telling began.
     began: &'b TellBeginning<L, S, K, D>,
     first: &'a TellerBeginning<S, K, D>,
@@ -103,7 +103,7 @@ pub struct BusyTeller<'a, 'b, L: Link, S: ScreenSource, K: InputSource, D: DropC
         → IsCounted (K.taken began.now.taker.value) began.now.strokes.value
         (D.dropped began.now.drops.value)) ∥₁ },
     ghost lawful: { ∥ ((before : List LinkState)
-        × (links_in L.state written ≡ before ++ unused ∷ [])
+        × (links_in L.state told_links ≡ before ++ unused ∷ [])
         × IsTelling S.looks S.width S.height
         (desk [] first.now.source.value (K.taken first.now.taker.value) first.now.strokes.value)
         (desk before began.now.source.value (K.taken began.now.taker.value)
@@ -131,7 +131,7 @@ impl<'a, L: Link, S: ScreenSource, K: InputSource, D: DropCount, T: Drop> FreeTe
         requires screen { (s : S) → IsScreenSize (S.width s) (S.height s) }
         ensures parts { (result.source ≡ source) × (result.taker ≡ taker)
             × (result.strokes ≡ strokes) × (result.drops ≡ drops) }
-        ensures none { links_in L.state result.written ≡ [] }
+        ensures none { links_in L.state result.told_links ≡ [] }
         ensures first { result.first ≡ first.entry }
     {
         FreeTeller {
@@ -139,7 +139,7 @@ impl<'a, L: Link, S: ScreenSource, K: InputSource, D: DropCount, T: Drop> FreeTe
             taker,
             strokes,
             drops,
-            written: Written::new(),
+            told_links: LinkTrail::new(),
             first,
             key: PhantomData,
         }
@@ -154,11 +154,11 @@ impl<'a, L: Link, S: ScreenSource, K: InputSource, D: DropCount, T: Drop> FreeTe
     pub fn so_far(&self)
         ensures told { ∥ HasTold S.looks S.width S.height (desk [] self.now.first.now.source.value
             (K.taken self.now.first.now.taker.value) self.now.first.now.strokes.value)
-            (links_in L.state self.now.written) (K.taken self.now.taker) self.now.strokes ∥₁ }
+            (links_in L.state self.now.told_links) (K.taken self.now.taker) self.now.strokes ∥₁ }
         ensures in_turn { ∥ ((w h : ℕ) → ((s : S) → (S.width s ≡ w) × (S.height s ≡ h))
             → K.taken self.now.first.now.taker.value ≡ []
             → StrokesStand self.now.first.now.strokes.value []
-            → AreToldInTurn w h [] (links_in L.state self.now.written)
+            → AreToldInTurn w h [] (links_in L.state self.now.told_links)
             (K.taken self.now.taker)) ∥₁ }
         ensures counted { ∥ (IsCounted (K.taken self.now.first.now.taker.value)
             self.now.first.now.strokes.value (D.dropped self.now.first.now.drops.value)
@@ -187,8 +187,8 @@ impl<'a, L: Link, S: ScreenSource, K: InputSource, D: DropCount, T: Drop> FreeTe
         requires { (began.now.link.value ≡ came.link) × (began.now.source.value ≡ self.source)
             × (began.now.taker.value ≡ self.taker) × (began.now.strokes.value ≡ self.strokes)
             × (began.now.drops.value ≡ self.drops) }
-        ensures came { links_in L.state result.0.written
-            ≡ links_in L.state self.entry.written ++ unused ∷ [] }
+        ensures came { links_in L.state result.0.told_links
+            ≡ links_in L.state self.entry.told_links ++ unused ∷ [] }
         ensures lent { (result.0.began ≡ began.entry) × (result.0.first ≡ self.entry.first) }
         ensures telling { (L.state result.1.link ≡ unused) × (result.1.source ≡ self.entry.source)
             × (result.1.taker ≡ self.entry.taker) × (result.1.strokes ≡ self.entry.strokes)
@@ -203,15 +203,15 @@ impl<'a, L: Link, S: ScreenSource, K: InputSource, D: DropCount, T: Drop> FreeTe
             taker,
             strokes,
             drops,
-            mut written,
+            mut told_links,
             first,
             key,
         } = self;
         let link = came.open(TellerKey { only_here: () });
-        written.note(&link);
+        told_links.note(&link);
         let telling = Telling::new(began, link, source, taker, strokes, drops);
         let busy = BusyTeller {
-            written,
+            told_links,
             began,
             first,
             key,
@@ -220,21 +220,21 @@ impl<'a, L: Link, S: ScreenSource, K: InputSource, D: DropCount, T: Drop> FreeTe
     }
 
     /// What the teller had, as it is left.
-    pub fn into_parts(self, _key: T) -> (S, K, Strokes, D, Written<L>)
+    pub fn into_parts(self, _key: T) -> (S, K, Strokes, D, LinkTrail<L>)
         ensures { (result.0 ≡ self.entry.source) × (result.1 ≡ self.entry.taker)
             × (result.2 ≡ self.entry.strokes) × (result.3 ≡ self.entry.drops)
-            × (result.4 ≡ self.entry.written) }
+            × (result.4 ≡ self.entry.told_links) }
     {
         let FreeTeller {
             source,
             taker,
             strokes,
             drops,
-            written,
+            told_links,
             first: _,
             key: _,
         } = self;
-        (source, taker, strokes, drops, written)
+        (source, taker, strokes, drops, told_links)
     }
 }
 
@@ -252,7 +252,7 @@ impl<'a, 'b, L: Link, S: ScreenSource, K: InputSource, D: DropCount, T: Drop> Bu
     pub fn so_far(&self)
         ensures fresh { L.state self.now.began.now.link.value ≡ unused }
         ensures told { ∥ ((before : List LinkState)
-            × (links_in L.state self.now.written ≡ before ++ unused ∷ [])
+            × (links_in L.state self.now.told_links ≡ before ++ unused ∷ [])
             × HasTold S.looks S.width S.height (desk [] self.now.first.now.source.value
             (K.taken self.now.first.now.taker.value) self.now.first.now.strokes.value)
             before (K.taken self.now.began.now.taker.value) self.now.began.now.strokes.value) ∥₁ }
@@ -272,7 +272,7 @@ impl<'a, 'b, L: Link, S: ScreenSource, K: InputSource, D: DropCount, T: Drop> Bu
             → K.taken self.now.first.now.taker.value ≡ []
             → StrokesStand self.now.first.now.strokes.value []
             → (before : List LinkState)
-            × (links_in L.state self.now.written ≡ before ++ unused ∷ [])
+            × (links_in L.state self.now.told_links ≡ before ++ unused ∷ [])
             × AreToldInTurn w h [] (before ++ unused ∷ L.state telling.now.link ∷ [])
             (K.taken telling.now.taker)) ∥₁ }
         ensures counted { ∥ (IsCounted (K.taken self.now.first.now.taker.value)
@@ -296,15 +296,15 @@ impl<'a, 'b, L: Link, S: ScreenSource, K: InputSource, D: DropCount, T: Drop> Bu
             self.began.now.strokes.value telling.strokes
             (S.width self.began.now.source.value) (S.height self.began.now.source.value) why
             (L.state self.began.now.link.value) (L.state telling.link) }
-        ensures left { links_in L.state result.written
-            ≡ links_in L.state self.entry.written ++ L.state telling.entry.link ∷ [] }
+        ensures left { links_in L.state result.told_links
+            ≡ links_in L.state self.entry.told_links ++ L.state telling.entry.link ∷ [] }
         ensures parts { (result.source ≡ telling.entry.source)
             × (result.taker ≡ telling.entry.taker) × (result.strokes ≡ telling.entry.strokes)
             × (result.drops ≡ telling.entry.drops) }
         ensures first { result.first ≡ self.entry.first }
     {
         let BusyTeller {
-            mut written,
+            mut told_links,
             began: _,
             first,
             key,
@@ -313,14 +313,14 @@ impl<'a, 'b, L: Link, S: ScreenSource, K: InputSource, D: DropCount, T: Drop> Bu
         // Only the clauses read how it ended.
         let _ = why;
         let (link, source, taker, strokes, drops) = telling.into_parts(TellerKey { only_here: () });
-        written.note(&link);
+        told_links.note(&link);
         drop(link);
         FreeTeller {
             source,
             taker,
             strokes,
             drops,
-            written,
+            told_links,
             first,
             key,
         }

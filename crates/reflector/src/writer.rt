@@ -6,7 +6,7 @@ ghost use Rattle.raster.specs.Size.{IsScreenSize};
 ghost use Rattle.input_relay.specs.Ends.{host_of, taken_of};
 ghost use Rattle.host_writer.specs.Dropping.{IsCounted};
 ghost use Rattle.reflector.specs.Tellings.{HasTold, desk};
-ghost use Rattle.run_traits.specs.Written.{links_in};
+ghost use Rattle.run_traits.specs.LinkTrails.{links_in};
 
 use crate::context::RunContext;
 use crate::handover_taker::HandoverTaker;
@@ -19,7 +19,7 @@ use input_relay::Taker;
 use link::{Link, Rest};
 use reflect_core::ScreenSource;
 use roles::Strokes;
-use run_traits::{Alarm, Written};
+use run_traits::{Alarm, LinkTrail};
 use std::alloc::Global;
 use std::snapshot::Snapshot;
 use std::sync::{Arc, Wait};
@@ -41,7 +41,7 @@ struct HostsToTell<L: Link, W: Alarm + Drop, S, R: Wait + Drop> {
 /// button is down after all that was taken, and how many inputs of all places were dropped.
 #[derive(Drop)]
 pub(crate) struct HostsTold<L, R: Wait + Drop> {
-    pub(crate) written: Written<L>,
+    pub(crate) told_links: LinkTrail<L>,
     pub(crate) taker: Taker<R>,
     pub(crate) strokes: Strokes,
     pub(crate) dropped: u64,
@@ -61,14 +61,14 @@ impl<L: Link, S: ScreenSource, R: Wait + Drop> Promise<HostsTold<L, R>> for OfTa
     ghost use Rattle.input_relay.specs.Ends.{host_of, taken_of};
     ghost use Rattle.host_writer.specs.Dropping.{IsCounted};
     ghost use Rattle.reflector.specs.Tellings.{HasTold, desk};
-    ghost use Rattle.run_traits.specs.Written.{links_in};
+    ghost use Rattle.run_traits.specs.LinkTrails.{links_in};
 
     ghost kept_by = { λ promise told. (host_of told.taker ≡ host_of promise.taker.value)
         × (IsCounted (taken_of promise.taker.value) promise.strokes.value 0
         → IsCounted (taken_of told.taker) told.strokes told.dropped)
         × HasTold S.looks S.width S.height
         (desk [] promise.source.value (taken_of promise.taker.value) promise.strokes.value)
-        (links_in L.state told.written) (taken_of told.taker) told.strokes };
+        (links_in L.state told.told_links) (taken_of told.taker) told.strokes };
 }
 
 /// The thread that tells the hosts.
@@ -78,7 +78,7 @@ pub(crate) type WriterHandle<L, S, R> = PromisedHandle<HostsTold<L, R>, OfTaker<
 /// host. A fault of a link isn't answered here, since the reader's link shows it.
 ///
 /// Of what matters it is given the teller alone, and then lent the telling of each host.
-fn write<'a, L, W, S, K, D, T, Z, R>(
+fn tell_each<'a, L, W, S, K, D, T, Z, R>(
     rt: &R,
     free: FreeTeller<'a, L, S, K, D, T>,
     handed: &HandoverTaker<L, W>,
@@ -97,9 +97,9 @@ where
     ensures counted { IsCounted (K.taken free.entry.taker)
         free.entry.strokes (D.dropped free.entry.drops)
         → IsCounted (K.taken result.taker) result.strokes (D.dropped result.drops) }
-    ensures told { HasTold S.looks S.width S.height (desk (links_in L.state free.entry.written)
+    ensures told { HasTold S.looks S.width S.height (desk (links_in L.state free.entry.told_links)
         free.entry.source (K.taken free.entry.taker) free.entry.strokes)
-        (links_in L.state result.written) (K.taken result.taker) result.strokes }
+        (links_in L.state result.told_links) (K.taken result.taker) result.strokes }
 {
     let mut idle = free;
     for _ in rt.forever() {
@@ -115,7 +115,7 @@ where
     unreachable!()
 }
 
-/// Tells the hosts whose links are handed over, as `write` does.
+/// Tells the hosts whose links are handed over, as `tell_each` does.
 fn tell<L: Link, W: Alarm + Drop, S: ScreenSource + Drop, Z: Rest, R: Wait + Drop>(
     rt: &R,
     to_tell: HostsToTell<L, W, S, R>,
@@ -127,7 +127,7 @@ fn tell<L: Link, W: Alarm + Drop, S: ScreenSource + Drop, Z: Rest, R: Wait + Dro
         → IsCounted (taken_of result.taker) result.strokes result.dropped }
     ensures told { HasTold S.looks S.width S.height
         (desk [] to_tell.source (taken_of to_tell.taker) to_tell.strokes)
-        (links_in L.state result.written) (taken_of result.taker) result.strokes }
+        (links_in L.state result.told_links) (taken_of result.taker) result.strokes }
 {
     let HostsToTell {
         handed,
@@ -139,10 +139,10 @@ fn tell<L: Link, W: Alarm + Drop, S: ScreenSource + Drop, Z: Rest, R: Wait + Dro
     let drops = DropCounter::new(input);
     let first = TellerBeginning::of(&source, &taker, &strokes, &drops);
     let free = FreeTeller::new(&first, source, taker, strokes, drops);
-    let left = write(rt, free, &handed, rest);
-    let (_, taker, strokes, drops, written) = left.into_parts(());
+    let left = tell_each(rt, free, &handed, rest);
+    let (_, taker, strokes, drops, told_links) = left.into_parts(());
     HostsTold {
-        written,
+        told_links,
         taker,
         strokes,
         dropped: drops.count,
@@ -182,7 +182,7 @@ where
                 → IsCounted (taken_of result.taker) result.strokes result.dropped }
             ensures told { HasTold S.looks S.width S.height
                 (desk [] to_tell.source (taken_of to_tell.taker) to_tell.strokes)
-                (links_in L.state result.written) (taken_of result.taker) result.strokes }
+                (links_in L.state result.told_links) (taken_of result.taker) result.strokes }
         { tell(&rt, to_tell, &*rest) },
     );
     match started {

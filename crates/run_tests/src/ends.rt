@@ -119,7 +119,7 @@ where
         hosts: _hosts,
         strokes: _,
         dropped,
-        written: _,
+        told_links: _,
         places,
     } = running;
     let fault = match &last.answer {

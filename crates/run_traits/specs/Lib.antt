@@ -1,4 +1,4 @@
 pub mod Trails
 pub mod Unused
-pub mod Written
+pub mod LinkTrails
 pub mod Either

@@ -11,9 +11,9 @@ mod door;
 mod either_door;
 mod event;
 mod left_link;
+mod link_trail;
 mod ringing;
 mod stop;
-mod written;
 
 pub use alarm::{Alarm, NoAlarm};
 pub use count::{HostCount, PlaceCount, clock_millis};
@@ -21,6 +21,6 @@ pub use door::Door;
 pub use either_door::EitherDoor;
 pub use event::{Event, Log, NoLog, Parting, PlaceId, VisitSummary, Way};
 pub use left_link::{EitherLeft, LeftLink};
+pub use link_trail::LinkTrail;
 pub use ringing::Ringing;
 pub use stop::Stop;
-pub use written::Written;

@@ -101,7 +101,7 @@ where
         taker: _taker,
         strokes: _strokes,
         dropped: _dropped,
-        written: _written,
+        told_links: _told_links,
         places: _places,
     } = run_all::<J, _, _, D, B, W, R>(rt, room, history, hosts, places, shared)?;
     let played = supply.last_end;

@@ -29,7 +29,7 @@ pub returns-clause-told : goal.returns-clause-told
 returns-clause-told g c =
     let some : 0 < length c.in_ok-publisher.watchers.items = omega (arith, c.in_ok-publisher.ensures.count, c.in_ok-publisher.watchers.ok.0) in
     let k = c.in_ok-left.ensures.told in
-    rw (c.shown.ensures.written, c.shown.ensures.taker, c.shown.ensures.strokes) (tells_from _ _ _ _ nothing_put k.0 _ _ _ c.in_ok-publisher.ensures.watchers some k.1 k.2)
+    rw (c.shown.ensures.told_links, c.shown.ensures.taker, c.shown.ensures.strokes) (tells_from _ _ _ _ nothing_put k.0 _ _ _ c.in_ok-publisher.ensures.watchers some k.1 k.2)
 
 -- So each was told a beginning of what is said, and the strokes stand for all of it.
 pub returns-clause-in_turn : goal.returns-clause-in_turn
@@ -41,4 +41,4 @@ returns-clause-strokes g c = (in_turn _ _ _ _ _ _ _ (returns-clause-told g c)).1
 -- What shows that the run was run says what the threads left.
 pub returns-clause-ran : goal.returns-clause-ran
 returns-clause-ran g c =
-    rw (c.shown.ensures.last, c.shown.ensures.links, c.shown.ensures.written, c.shown.ensures.taker, c.shown.ensures.publisher, ← c.of.ensures, ← c.of-2.ensures, ← c.of-3.ensures) c.shown.ensures.ran
+    rw (c.shown.ensures.last, c.shown.ensures.links, c.shown.ensures.told_links, c.shown.ensures.taker, c.shown.ensures.publisher, ← c.of.ensures, ← c.of-2.ensures, ← c.of-3.ensures) c.shown.ensures.ran

@@ -2,7 +2,7 @@
 use Rattle.std.proofs.Common.{map}
 use Rattle.input_relay.specs.Ends.{taken_of}
 use Rattle.shared_screen.specs.History.{puts_of}
-use Rattle.run_traits.specs.Written.{links_in}
+use Rattle.run_traits.specs.LinkTrails.{links_in}
 use Rattle.host_turns.specs.Running.{came_over}
 use Rattle.reflector.proofs.run.run_all.Given as goal
 
@@ -18,7 +18,7 @@ ghosts-shown g a = record {
     last_end = a.left.last;
     came = came_over a.began.now.has_called (g.L.Link.state a.began.now.link.value);
     links = map g.L.Link.state a.left.links.items;
-    told = links_in g.L.Link.state a.left.written;
+    told = links_in g.L.Link.state a.left.told_links;
     taken = taken_of a.left.taker;
     updates = puts_of a.left.publisher.changes;
   };

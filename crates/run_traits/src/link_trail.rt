@@ -1,7 +1,7 @@
 //! What links were given, for clauses.
 
 ghost use Rattle.std.specs.Prelude.{◌≡◌, [], ◌∷◌, ◌++◌};
-ghost use Rattle.run_traits.specs.Written.{links_in};
+ghost use Rattle.run_traits.specs.LinkTrails.{links_in};
 
 use link::Link;
 use std::mem;
@@ -19,16 +19,16 @@ enum Trail<L> {
 /// The links over which hosts were told, or viewers were served, one after another: each as it came, and then as it was
 /// left. At run time it has no bytes: only clauses read it (`links_in`).
 #[derive(Drop)]
-pub struct Written<L> {
+pub struct LinkTrail<L> {
     trail: Snapshot<Trail<L>>,
 }
 
-impl<L: Link> Written<L> {
+impl<L: Link> LinkTrail<L> {
     /// No link was noted yet.
-    pub fn new() -> Written<L>
+    pub fn new() -> LinkTrail<L>
         ensures { links_in L.state result ≡ [] }
     {
-        Written {
+        LinkTrail {
             trail: Snapshot::of(&Trail::Nothing),
         }
     }

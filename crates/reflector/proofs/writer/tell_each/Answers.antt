@@ -2,9 +2,9 @@
 use Rattle.std.proofs.Common.{refl, ap, sym, ◌∙◌}
 use Rattle.run_traits.specs.Unused.{unused}
 use Rattle.reflector.specs.Tellings.{desk}
-use Rattle.run_traits.specs.Written.{links_in}
+use Rattle.run_traits.specs.LinkTrails.{links_in}
 use Rattle.reflector.proofs.Telling.{noted_twice, telling_on, told_all}
-use Rattle.reflector.proofs.writer.write.Goals as goal
+use Rattle.reflector.proofs.writer.tell_each.Goals as goal
 
 pub returns-in_default-clause-told : goal.returns-in_default-clause-told
 returns-in_default-clause-told g c = told_all _ _ _ _ _ _ _ _ _ c.loop.invariant.4 refl
@@ -30,6 +30,6 @@ loop-preserved g c =
       ap g.K.InputSource.relay parts.1 ∙ (c.run_writer-why.ensures.relay ∙ (ap g.K.InputSource.relay telling.2 ∙ c.loop.invariant.2)),
       λ k. rw (parts.1, parts.2, parts.3) (c.run_writer-why.ensures.counted (rw (telling.2, telling.3, telling.4) (c.loop.invariant.3 k))),
       rw (parts.0, parts.1, parts.2)
-          (telling_on _ _ _ _ (desk (links_in g.L.Link.state c.loop.idle.written) c.loop.idle.source (g.K.InputSource.taken c.loop.idle.taker) c.loop.idle.strokes) _ _ _ _ unused _ c.run_writer-why.result c.loop.invariant.4 refl writes
+          (telling_on _ _ _ _ (desk (links_in g.L.Link.state c.loop.idle.told_links) c.loop.idle.source (g.K.InputSource.taken c.loop.idle.taker) c.loop.idle.strokes) _ _ _ _ unused _ c.run_writer-why.result c.loop.invariant.4 refl writes
           (noted_twice _ _ _ _ _ met refl c.close-idle.ensures.left)),
     )
