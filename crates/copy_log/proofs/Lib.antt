@@ -4,4 +4,5 @@ pub mod Lacking
 pub mod Same
 pub mod Marks
 pub mod Adding
+pub mod Copies
 pub mod Vectors

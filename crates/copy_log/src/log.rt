@@ -1,8 +1,9 @@
 //! The log of a host's copies.
 
-ghost use Rattle.std.specs.Prelude.{◌≡◌, ◌≢◌, ℕ, ◌+◌, ◌<◌, ◌≤◌, ◌^◌, ◌%◌, [], ◌∷◌, ◌++◌, All, true, not, take, drop, length, slice_index_or, List, IfOk, IfErr};
+ghost use Rattle.std.specs.Prelude.{◌&&◌, ◌≡◌, ◌≢◌, ℕ, ◌+◌, ◌<◌, ◌≤◌, ◌^◌, ◌%◌, [], ◌∷◌, ◌++◌, All, true, not, take, drop, length, slice_index_or, List, IfOk, IfErr};
+ghost use Rattle.std.specs.List.{list_any};
 ghost use Rattle.copy_log.specs.Notes.{IsSameLog, IsSameScreen, LogStands, is_among, nothing, paints, passed_in, reaches};
-ghost use Rattle.copy_log.specs.Passed.{BeginsWith, IsSamePassed, passed};
+ghost use Rattle.copy_log.specs.Passed.{BeginsWith, IsSamePassed, has_copy, passed};
 ghost use Rattle.copy_log.specs.declared.note.TheConstants.{MOST_COPIES};
 ghost use Rattle.fault.specs.declared.kinds.Fault.TheVariants.{Memory};
 ghost use Rattle.raster.specs.Screen.{IsWithin, tile_count};
@@ -128,6 +129,23 @@ impl CopyLog {
         ensures { result ≡ reaches self.now since }
     {
         since <= self.number && self.number - since <= KEPT
+    }
+
+    /// Whether it reaches back to `since`, and an update after that begins with a copy. Where none does, nothing can be
+    /// passed on, and `pass` may be spared.
+    pub fn has_copies(&self, since: u64) -> bool
+        ensures { (us : List Update) → LogStands self.now us
+            → result ≡ (reaches self.now since && list_any has_copy (drop since us)) }
+    {
+        if !self.reaches(since) {
+            return false;
+        }
+        for k in since..self.number {
+            if !self.notes[place(k)].copies().is_empty() {
+                return true;
+            }
+        }
+        false
     }
 
     /// Notes the next update. It begins with these copies, 16 at most, and its other paints, which are no copies, touch
