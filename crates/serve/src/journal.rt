@@ -192,9 +192,50 @@ impl Display for Why {
     }
 }
 
+/// The line of a port at which viewers can connect.
+fn listening<W: fmt::Write>(
+    f: &mut Formatter<W>,
+    role: Role,
+    address: SocketAddr,
+    places: u64,
+    way: Way,
+) -> fmt::Result {
+    write!(
+        f,
+        "listening role={} address={address}{} places={places}",
+        RoleName { role },
+        By { way }
+    )
+}
+
+/// The line of a port at which whoever reaches it has full control.
+fn open_to_all<W: fmt::Write>(f: &mut Formatter<W>, address: SocketAddr, way: Way) -> fmt::Result {
+    write!(f, "open-to-all role=full address={address}{}", By { way })
+}
+
+/// The line of a viewer that has a place.
+fn viewer_in<W: fmt::Write>(
+    f: &mut Formatter<W>,
+    place_id: PlaceId,
+    address: Option<SocketAddr>,
+    way: Way,
+) -> fmt::Result {
+    write!(
+        f,
+        "viewer-in place={} role={} address={}{}",
+        place_id.place,
+        RoleName {
+            role: place_id.role
+        },
+        AddressOrDash { address },
+        By { way }
+    )
+}
+
+/// The line of a viewer that has left its place.
 fn viewer_out<W: fmt::Write>(
     f: &mut Formatter<W>,
-    place_id: &PlaceId,
+    place_id: PlaceId,
     address: Option<SocketAddr>,
     way: Way,
     visit: &VisitSummary,
@@ -216,6 +257,26 @@ fn viewer_out<W: fmt::Write>(
         visit.answers,
         visit.bytes,
         why
+    )
+}
+
+/// What the line of a viewer with a wrong password begins with.
+const PASSWORD: &str = "viewer-refused why=password";
+
+/// The line of a newcomer that was refused, of which `what` says why.
+fn refused<W: fmt::Write>(
+    f: &mut Formatter<W>,
+    what: &str,
+    role: Role,
+    address: Option<SocketAddr>,
+    way: Way,
+) -> fmt::Result {
+    write!(
+        f,
+        "{what} role={} address={}{}",
+        RoleName { role },
+        AddressOrDash { address },
+        By { way }
     )
 }
 
@@ -257,104 +318,77 @@ fn host_tried<W: fmt::Write>(
     }
 }
 
+/// The line of a host whose handshake is done.
+fn host_joined<W: fmt::Write>(
+    f: &mut Formatter<W>,
+    address: Option<SocketAddr>,
+    name: &[u8],
+    width: u64,
+    height: u64,
+) -> fmt::Result {
+    write!(
+        f,
+        "host-joined address={} width={width} height={height} name=\"{}\"",
+        AddressOrDash { address },
+        Quoted { bytes: name }
+    )
+}
+
+/// The line of a host that has gone.
+fn host_out<W: fmt::Write>(
+    f: &mut Formatter<W>,
+    address: Option<SocketAddr>,
+    why: Result<(), Fault>,
+) -> fmt::Result {
+    let why = Why {
+        why,
+        parting: Parting::Closed,
+    };
+    write!(
+        f,
+        "host-out address={} why=\"{why}\"",
+        AddressOrDash { address }
+    )
+}
+
 impl Display for Line<'_> {
     fn fmt<W: fmt::Write>(&self, f: &mut Formatter<W>) -> fmt::Result {
-        match self.event {
+        match *self.event {
             Event::Listening {
                 role,
                 address,
                 places,
                 way,
-            } => write!(
-                f,
-                "listening role={} address={address}{} places={places}",
-                RoleName { role: *role },
-                By { way: *way }
-            ),
-            Event::OpenToAll { address, way } => write!(
-                f,
-                "open-to-all role=full address={address}{}",
-                By { way: *way }
-            ),
+            } => listening(f, role, address, places, way),
+            Event::OpenToAll { address, way } => open_to_all(f, address, way),
             Event::HostTried {
                 host,
                 address,
                 refused,
-            } => host_tried(f, host, *address, *refused),
+            } => host_tried(f, host, address, refused),
             Event::HostJoined {
                 address,
                 name,
                 width,
                 height,
-            } => write!(
-                f,
-                "host-joined address={} width={width} height={height} name=\"{}\"",
-                AddressOrDash { address: *address },
-                Quoted { bytes: name }
-            ),
+            } => host_joined(f, address, name, width, height),
+            Event::HostOut { address, why } => host_out(f, address, why),
             Event::ViewerIn {
                 place_id,
                 address,
                 way,
-            } => write!(
-                f,
-                "viewer-in place={} role={} address={}{}",
-                place_id.place,
-                RoleName {
-                    role: place_id.role
-                },
-                AddressOrDash { address: *address },
-                By { way: *way }
-            ),
+            } => viewer_in(f, place_id, address, way),
             Event::ViewerOut {
                 place_id,
                 address,
                 way,
                 visit,
-            } => viewer_out(f, place_id, *address, *way, visit),
-            Event::PlacesTaken { role, address, way } => write!(
-                f,
-                "no-place role={} address={}{}",
-                RoleName { role: *role },
-                AddressOrDash { address: *address },
-                By { way: *way }
-            ),
-            Event::NoHost { role, address, way } => write!(
-                f,
-                "no-host role={} address={}{}",
-                RoleName { role: *role },
-                AddressOrDash { address: *address },
-                By { way: *way }
-            ),
-            Event::NoEntry { role, address, way } => write!(
-                f,
-                "no-entry role={} address={}{}",
-                RoleName { role: *role },
-                AddressOrDash { address: *address },
-                By { way: *way }
-            ),
-            Event::NoHeader { role, address, way } => write!(
-                f,
-                "no-header role={} address={}{}",
-                RoleName { role: *role },
-                AddressOrDash { address: *address },
-                By { way: *way }
-            ),
-            Event::WrongPassword { role, address, way } => write!(
-                f,
-                "viewer-refused why=password role={} address={}{}",
-                RoleName { role: *role },
-                AddressOrDash { address: *address },
-                By { way: *way }
-            ),
-            Event::HostOut { address, why } => {
-                let why = Why {
-                    why: *why,
-                    parting: Parting::Closed,
-                };
-                let place = AddressOrDash { address: *address };
-                write!(f, "host-out address={place} why=\"{why}\"")
-            }
+            } => viewer_out(f, place_id, address, way, &visit),
+            Event::PlacesTaken { role, address, way } => refused(f, "no-place", role, address, way),
+            Event::NoHost { role, address, way } => refused(f, "no-host", role, address, way),
+            Event::NoEntry { role, address, way } => refused(f, "no-entry", role, address, way),
+            Event::NoHeader { role, address, way } => refused(f, "no-header", role, address, way),
+            Event::WrongPassword { role, address, way } => refused(f, PASSWORD, role, address, way),
         }
     }
 }
