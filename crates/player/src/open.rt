@@ -12,7 +12,7 @@ use playback::{Pace, PlayedLink};
 use recording_index::{Index, KeyMoment};
 use show::{AtOnce, RecordingFile};
 use std::alloc::Global;
-use std::io::Read;
+use std::io::{Read, Seek, SeekFrom};
 use std::rt::Files;
 use std::sync::{Arc, Wait};
 use std::time::Clock;
@@ -36,12 +36,28 @@ fn index_of<R: Files>(rt: &R, alloc: Global, path: &str) -> Option<Index> {
     Index::read(alloc, bytes.as_slice()).ok()
 }
 
-/// The last key moment at or before a time, in milliseconds, whose place lies within this recording.
+/// The next four bytes of a file, as a number whose most significant byte comes first.
+fn read_number<F: Read>(file: &mut F) -> Option<u32> {
+    let mut field = [0u8; 4];
+    file.read_exact(&mut field).ok()?;
+    Some(u32::from_be_bytes(field))
+}
+
+/// The time of the block that begins at this place of a recording: it stands behind the block's length and padded data.
+fn time_at<R: Files>(rt: &R, path: &str, place: u64) -> Option<u32> {
+    let mut file = fs::open(rt, path).ok()?;
+    file.seek(SeekFrom::Start(place)).ok()?;
+    let padded = read_number(&mut file)?.checked_next_multiple_of(4)?;
+    file.seek(SeekFrom::Current(i64::from(padded))).ok()?;
+    read_number(&mut file)
+}
+
+/// The last key moment at or before a time, in milliseconds, if a block of that moment's time begins at its place. None
+/// does where the index is of another recording.
 fn moment_at<R: Files>(rt: &R, alloc: Global, path: &str, time: u64) -> Option<KeyMoment> {
-    let len = fs::metadata(rt, path).ok()?.len();
     let time = u32::try_from(time).unwrap_or(u32::MAX);
     let moment = index_of(rt, alloc, path)?.last_at(time)?;
-    if moment.place >= len {
+    if time_at(rt, path, moment.place)? != moment.time {
         return None;
     }
     Some(moment)
