@@ -10,6 +10,9 @@ use Rattle.reflector.proofs.run.run_all.Goals as goal
 pub returns-clause-places : goal.returns-clause-places
 returns-clause-places g c = rw c.shown.ensures.places c.in_ok-left.ensures.places
 
+pub returns-clause-doors : goal.returns-clause-doors
+returns-clause-doors g c = rw c.shown.ensures.places c.in_ok-left.ensures.doors
+
 pub returns-clause-relay : goal.returns-clause-relay
 returns-clause-relay g c = rw (c.shown.ensures.places, c.shown.ensures.taker) c.in_ok-left.ensures.relay
 

@@ -1,8 +1,13 @@
 use Rattle.reflector.proofs.Places.{first_left, grown, grown_by, pair_of}
 use Rattle.shared_screen.proofs.Every.{all_snoc}
-use Rattle.std.proofs.Common.{◌<◌, ◌∙◌, ap, arith, length, rules}
+use Rattle.std.proofs.Common.{◌<◌, ◌∙◌, ap, arith, length, rules, sym}
 use Rattle.reflector.specs.Visits.{IsOfScreen}
 use Rattle.reflector.proofs.run.start_places.Goals as goal
+
+-- The maker is of the screen that viewers are told.
+pub start_place-requires-after_bounds : goal.start_place-requires-after_bounds
+start_place-requires-after_bounds g c κs within s =
+    let it = c.requires.screen s in let told = c.in_ok-maker.ensures.size in (it.0 ∙ sym told.0, it.1 ∙ sym told.1)
 
 pub loop-sender-preserved : goal.loop-sender-preserved
 loop-sender-preserved g c =
