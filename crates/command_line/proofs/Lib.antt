@@ -7,5 +7,6 @@ mod Numbers
 mod Named
 mod Taken
 mod Added
+mod RuleLists
 mod Set
 mod Texts

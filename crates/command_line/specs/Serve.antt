@@ -1,5 +1,5 @@
 -- The command `reflectord serve` as clap reads it, and the statuses of lines that set nothing.
-use Rattle.std.specs.Prelude.{◌≢◌, ◌≡◌, ◌⊎◌, ◌∷◌, List, Some, [], codes, pos, true, ℕ}
+use Rattle.std.specs.Prelude.{◌++◌, ◌≢◌, ◌≡◌, ◌⊎◌, ◌∷◌, List, Some, [], codes, pos, true, ℕ}
 use Rattle.clap.specs.Words.{App, Kinds, Rule, Text, new_rule}
 use Rattle.clap.specs.Simple.{new_shape}
 use Rattle.clap.specs.declared.builder.action.ArgAction.TheVariants.{Append, Set, SetTrue}
@@ -62,34 +62,59 @@ bind = with_default (codes "127.0.0.1") (option (codes "bind"))
 abbrev pub full_bind : Rule
 full_bind = option (codes "full-bind")
 
-abbrev pub options : List Rule
-options = host ∷ option (codes "host-password-file") ∷ bind ∷ full_bind
+-- the options of the first host
+abbrev pub host_rules : List Rule
+host_rules = host ∷ option (codes "host-password-file") ∷ []
+
+-- the options of the addresses and ports of viewers
+abbrev pub port_rules : List Rule
+port_rules = bind ∷ full_bind
     ∷ port (codes "full") (codes "5900")
     ∷ port (codes "view") (codes "5901")
     ∷ flag (codes "view-only")
-    ∷ option (codes "full-password-file")
+    ∷ []
+
+-- the options of who may be a viewer
+abbrev pub viewer_rules : List Rule
+viewer_rules = option (codes "full-password-file")
     ∷ option (codes "view-password-file")
     ∷ places (codes "full-places")
     ∷ places (codes "view-places")
-    ∷ option (codes "room")
-    ∷ flag (codes "plain-runs")
-    ∷ flag (codes "no-zrle")
-    ∷ web_port (codes "web-full")
+    ∷ []
+
+-- the options of the screen that viewers are sent
+abbrev pub screen_rules : List Rule
+screen_rules = option (codes "room") ∷ flag (codes "plain-runs") ∷ flag (codes "no-zrle") ∷ []
+
+-- the options of browsers
+abbrev pub browser_rules : List Rule
+browser_rules = web_port (codes "web-full")
     ∷ web_port (codes "web-view")
     ∷ option (codes "web-root")
     ∷ repeated (codes "web-origin")
-    ∷ option (codes "metrics")
-    ∷ option (codes "proxy-from")
-    ∷ flag (codes "log")
-    ∷ pause (codes "again")
-    ∷ option (codes "from")
-    ∷ option (codes "speed")
-    ∷ seconds (codes "stalled")
+    ∷ []
+
+-- the options of machines that read the run's numbers, of a proxy, and of the log
+abbrev pub machine_rules : List Rule
+machine_rules = option (codes "metrics") ∷ option (codes "proxy-from") ∷ flag (codes "log") ∷ []
+
+-- the options of when hosts are tried again, and of how recordings are played
+abbrev pub turn_rules : List Rule
+turn_rules = pause (codes "again") ∷ option (codes "from") ∷ option (codes "speed") ∷ []
+
+-- the options of how long a viewer is waited for, of an operator, of the recording that is made, and of further hosts
+abbrev pub run_rules : List Rule
+run_rules = seconds (codes "stalled")
     ∷ option (codes "control")
     ∷ option (codes "record")
     ∷ seconds (codes "record-key")
     ∷ further (codes "next") 8
     ∷ []
+
+-- all options, in the order in which the help names them
+abbrev pub options : List Rule
+options = host_rules ++ port_rules ++ viewer_rules ++ screen_rules
+    ++ browser_rules ++ machine_rules ++ turn_rules ++ run_rules
 
 -- its words are those after `serve`, and it answers `--version`
 abbrev pub serve_alone : App

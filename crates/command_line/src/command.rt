@@ -5,7 +5,8 @@ ghost use Rattle.std.specs.List.{AllByRecursion};
 ghost use Rattle.clap.specs.Words.{app_of, rule_of};
 ghost use Rattle.command_line.specs.Serve.{bind as bind_rule, flag as flag_rule, further as further_rule, host as host_rule};
 ghost use Rattle.command_line.specs.Serve.{option as option_rule, pause as pause_rule, places as places_rule, port as port_rule, repeated as repeated_rule, seconds as seconds_rule, web_port as web_port_rule};
-ghost use Rattle.command_line.specs.Serve.{options as option_rules, serve, serve_alone};
+ghost use Rattle.command_line.specs.Serve.{browser_rules, host_rules, machine_rules, port_rules, run_rules, screen_rules, turn_rules, viewer_rules};
+ghost use Rattle.command_line.specs.Serve.{serve, serve_alone};
 
 use clap::{Arg, ArgAction, Command, value_parser};
 use std::alloc::{AllocError, Global};
@@ -92,16 +93,24 @@ fn show_command<'a>(alloc: Global) -> Result<Command<'a>, AllocError> {
         .arg(index)
 }
 
-/// `reflectord serve`, whose words are those after `serve`.
+/// `reflectord serve`, whose words are those after `serve`. Its help names the options in this order.
 pub(crate) fn serve_command<'a>(alloc: Global) -> Result<Command<'a>, AllocError>
     ensures { IfOk result (λ command. app_of command ≡ serve) }
 {
-    without_options(alloc)?.args(options(alloc)?)
+    without_options(alloc)?
+        .args(host_options(alloc)?)?
+        .args(port_options(alloc)?)?
+        .args(viewer_options(alloc)?)?
+        .args(screen_options(alloc)?)?
+        .args(browser_options(alloc)?)?
+        .args(machine_options(alloc)?)?
+        .args(turn_options(alloc)?)?
+        .args(run_options(alloc)?)
 }
 
-/// The options of `serve`, in the order in which its help names them.
-fn options<'a>(alloc: Global) -> Result<Vec<Arg<'a>>, AllocError>
-    ensures rules { IfOk result (λ options. map rule_of options.items ≡ option_rules) }
+/// The options of the first host.
+fn host_options<'a>(alloc: Global) -> Result<Vec<Arg<'a>>, AllocError>
+    ensures rules { IfOk result (λ options. map rule_of options.items ≡ host_rules) }
     ensures local { IfOk result (λ options.
         AllByRecursion (λ option. option.global ≡ false) options.items) }
 {
@@ -113,6 +122,17 @@ fn options<'a>(alloc: Global) -> Result<Vec<Arg<'a>>, AllocError>
             "PATH",
             "A file with the hosts' password in its first line, or as vncpasswd writes it"
         ),
+    ]?;
+    Ok(options)
+}
+
+/// The options of the addresses and ports of viewers.
+fn port_options<'a>(alloc: Global) -> Result<Vec<Arg<'a>>, AllocError>
+    ensures rules { IfOk result (λ options. map rule_of options.items ≡ port_rules) }
+    ensures local { IfOk result (λ options.
+        AllByRecursion (λ option. option.global ≡ false) options.items) }
+{
+    let options = vec![in alloc;
         bind(alloc),
         option(
             alloc,
@@ -137,6 +157,17 @@ fn options<'a>(alloc: Global) -> Result<Vec<Arg<'a>>, AllocError>
             "view-only",
             "Serve no viewers with full control: open no port for them"
         ),
+    ]?;
+    Ok(options)
+}
+
+/// The options of who may be a viewer: their passwords, and how many they may be.
+fn viewer_options<'a>(alloc: Global) -> Result<Vec<Arg<'a>>, AllocError>
+    ensures rules { IfOk result (λ options. map rule_of options.items ≡ viewer_rules) }
+    ensures local { IfOk result (λ options.
+        AllByRecursion (λ option. option.global ≡ false) options.items) }
+{
+    let options = vec![in alloc;
         option(
             alloc,
             "full-password-file",
@@ -159,6 +190,17 @@ fn options<'a>(alloc: Global) -> Result<Vec<Arg<'a>>, AllocError>
             "view-places",
             "How many viewers that only look on, up to 32"
         ),
+    ]?;
+    Ok(options)
+}
+
+/// The options of the screen that viewers are sent.
+fn screen_options<'a>(alloc: Global) -> Result<Vec<Arg<'a>>, AllocError>
+    ensures rules { IfOk result (λ options. map rule_of options.items ≡ screen_rules) }
+    ensures local { IfOk result (λ options.
+        AllByRecursion (λ option. option.global ≡ false) options.items) }
+{
+    let options = vec![in alloc;
         option(
             alloc,
             "room",
@@ -175,6 +217,17 @@ fn options<'a>(alloc: Global) -> Result<Vec<Arg<'a>>, AllocError>
             "no-zrle",
             "Answer no viewer in ZRLE, which has fewer bytes and takes more time"
         ),
+    ]?;
+    Ok(options)
+}
+
+/// The options of browsers.
+fn browser_options<'a>(alloc: Global) -> Result<Vec<Arg<'a>>, AllocError>
+    ensures rules { IfOk result (λ options. map rule_of options.items ≡ browser_rules) }
+    ensures local { IfOk result (λ options.
+        AllByRecursion (λ option. option.global ≡ false) options.items) }
+{
+    let options = vec![in alloc;
         web_port(alloc, "web-full", "A port for browsers with full control"),
         web_port(alloc, "web-view", "A port for browsers that only look on"),
         option(
@@ -189,6 +242,17 @@ fn options<'a>(alloc: Global) -> Result<Vec<Arg<'a>>, AllocError>
             "ORIGIN",
             "Let pages of this origin connect, as https://lecture.example (more than one: once for each)",
         ),
+    ]?;
+    Ok(options)
+}
+
+/// The options of machines that read the run's numbers, of a proxy, and of the log.
+fn machine_options<'a>(alloc: Global) -> Result<Vec<Arg<'a>>, AllocError>
+    ensures rules { IfOk result (λ options. map rule_of options.items ≡ machine_rules) }
+    ensures local { IfOk result (λ options.
+        AllByRecursion (λ option. option.global ≡ false) options.items) }
+{
+    let options = vec![in alloc;
         option(
             alloc,
             "metrics",
@@ -206,6 +270,17 @@ fn options<'a>(alloc: Global) -> Result<Vec<Arg<'a>>, AllocError>
             "log",
             "Log who comes and who leaves, on standard error"
         ),
+    ]?;
+    Ok(options)
+}
+
+/// The options of when hosts are tried again, and of how recordings are played.
+fn turn_options<'a>(alloc: Global) -> Result<Vec<Arg<'a>>, AllocError>
+    ensures rules { IfOk result (λ options. map rule_of options.items ≡ turn_rules) }
+    ensures local { IfOk result (λ options.
+        AllByRecursion (λ option. option.global ≡ false) options.items) }
+{
+    let options = vec![in alloc;
         pause(
             alloc,
             "again",
@@ -223,6 +298,17 @@ fn options<'a>(alloc: Global) -> Result<Vec<Arg<'a>>, AllocError>
             "TIMES",
             "How fast recordings are played, from 0.25 to 16 times their own pace"
         ),
+    ]?;
+    Ok(options)
+}
+
+/// The options of how long a viewer is waited for, of an operator, of the recording that is made, and of further hosts.
+fn run_options<'a>(alloc: Global) -> Result<Vec<Arg<'a>>, AllocError>
+    ensures rules { IfOk result (λ options. map rule_of options.items ≡ run_rules) }
+    ensures local { IfOk result (λ options.
+        AllByRecursion (λ option. option.global ≡ false) options.items) }
+{
+    let options = vec![in alloc;
         seconds(
             alloc,
             "stalled",
