@@ -135,6 +135,7 @@ where
         log: &log,
     };
     let opened = open_ports(&means, settings, ports);
+    // The closure takes these over, and makes its own `Means` of them: of one that it took, no clause would be left.
     answer(
         &journal,
         settings,
@@ -145,6 +146,13 @@ where
                 × AreBoth settings.now opened.run.entrances.full opened.run.entrances.view
                 × (is_some opened.run.tape ≡ is_some settings.now.recording)) }
             ensures { IfOk result (λ ended. IsEndBy settings.entry.now ended) }
-        { run_watched(&means, settings, opened?) },
+        {
+            let means = Means {
+                rt: &rt,
+                alloc,
+                log: &log,
+            };
+            run_watched(&means, settings, opened?)
+        },
     )
 }
