@@ -24,10 +24,7 @@ const RECORDED: &[u8] = b"FBS 001.000\n\0\0\0\x43\
 /// Its index: the second block is a key moment. It begins behind 88 bytes.
 const INDEX: &[u8] = b"FBI 001.000\n\0\x36\xEE\x80\0\0\0\0\0\0\0\x58";
 
-/// The index of another recording: at its key moment's place the first block begins, of another time.
-const OTHER_INDEX: &[u8] = b"FBI 001.000\n\0\x36\xEE\x80\0\0\0\0\0\0\0\x0C";
-
-/// Where the second block of the recording begins, in bytes.
+/// Where its second block begins, in bytes.
 const SECOND_BLOCK: usize = 88;
 
 /// A block that ends inside a message, an update of two pixels, at 0 milliseconds.
@@ -162,21 +159,6 @@ const PLAYS: &[Play<'static>] = &[
             "viewer-out place=1 role=view address=*",
         ],
     },
-    Play {
-        name: "a recording has another one's index",
-        words: "--log --host file:astray.fbs --from 01:00:00 --speed 16 --again 3600 --view-only --view-places 1 --control control-|full|",
-        notify: "",
-        acts: &[IT_BEGINS_ANEW],
-        status: 0,
-        lines: &[
-            "listening role=view address=127.0.0.1:|view| places=1",
-            "host-tried recording=\"astray.fbs\" why=\"opened\"",
-            "host-joined address=- width=2 height=1 name=\"T\"",
-            "host-out address=- why=\"ended\"",
-            "viewer-in place=1 role=view address=*",
-            "viewer-out place=1 role=view address=*",
-        ],
-    },
 ];
 
 const BREAKS: &[Play<'static>] = &[Play {
@@ -215,8 +197,6 @@ fn recordings_are_played(rt: HostRuntime) -> Result<(), Fail> {
     let alloc = rt.alloc();
     fs::write(&rt, "played.fbs", RECORDED)?;
     fs::write(&rt, "unplayed.fbs", INDEX)?;
-    fs::write(&rt, "astray.fbs", RECORDED)?;
-    fs::write(&rt, "astray.fbi", OTHER_INDEX)?;
     let room = Room::new(alloc)?;
     for (line, status) in INDEXES {
         if status_of(rt, alloc, room, line) != *status {
