@@ -12,7 +12,7 @@ use Rattle.copy_log.specs.Passed.{Passed, can_pass, is_held, lacking, or_meets, 
 use Rattle.copy_log.specs.KeepsUp.{CopiesKeepUp, HoldsBut, moved}
 use Rattle.copy_log.proofs.Ranges.{and_first, none_at, not_false}
 
-moved-more : (held : Map (Option ℕ)) (ps : List Paint) (r : Rect) (sx sy : ℕ) → moved held (ps ++ Copy r sx sy ∷ []) ≡ copy r sx sy (moved held ps)
+pub moved-more : (held : Map (Option ℕ)) (ps : List Paint) (r : Rect) (sx sy : ℕ) → moved held (ps ++ Copy r sx sy ∷ []) ≡ copy r sx sy (moved held ps)
 moved-more held [] r sx sy = refl
 moved-more held (Put q colours ∷ ps) r sx sy = moved-more held ps r sx sy
 moved-more held (Copy q qx qy ∷ ps) r sx sy = moved-more (copy q qx qy held) ps r sx sy

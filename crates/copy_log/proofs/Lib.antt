@@ -2,6 +2,7 @@ pub mod Ranges
 pub mod Keeping
 pub mod Lacking
 pub mod Same
+pub mod Leads
 pub mod Marks
 pub mod Adding
 pub mod Copies

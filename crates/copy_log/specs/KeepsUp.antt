@@ -1,11 +1,11 @@
 -- What holds of the copies that are passed on, and of the tiles that are lacked behind them.
-use Rattle.std.specs.Prelude.{◌≡◌, ℕ, ◌<◌, Bool, true, false, List, [], ◌∷◌, ◌++◌, Option, Some}
-use Rattle.std.specs.List.{list_any}
+use Rattle.std.specs.Prelude.{◌≡◌, ℕ, ◌<◌, Bool, true, false, ◌||◌, List, [], ◌∷◌, ◌++◌, Option, Some}
+use Rattle.std.specs.List.{All, list_any}
 use Rattle.raster.specs.declared.rect.Rect.{Rect}
-use Rattle.raster.specs.Screen.{Canvas, IsWithin, Map, copy, holds, tile_count, tile_rect}
+use Rattle.raster.specs.Screen.{Canvas, IsWithin, Map, copy, holds, lies_in, tile_count, tile_rect}
 use Rattle.raster.specs.Update.{Paint, Put, Copy, Resized, Update, after_updates}
 use Rattle.tiles.specs.Touched.{touches}
-use Rattle.copy_log.specs.Passed.{Passed, BeginsWith, IsSamePassed, has_copy, passed, passed_after}
+use Rattle.copy_log.specs.Passed.{Passed, BeginsWith, IsSamePassed, has_copy, passed, passed_after, source_of}
 
 -- What is held after several copies. Paints that are no copies change nothing of it (RFC 6143, 7.7.2).
 abbrev pub moved : {A : Type 0} → Map A → List Paint → Map A
@@ -45,6 +45,35 @@ PassingGoesOn =
 -- Of updates without copies none is passed on.
 abbrev pub NonePassed : Type 0
 NonePassed = (w h : ℕ) (area : Rect) (p : Passed) (us : List Update) → list_any has_copy us ≡ false → (passed_after w h area p us).copies ≡ p.copies
+
+-- The paint is a copy. It and its source lie in an area.
+abbrev pub CopyLiesIn : Rect → Paint → Type 0
+CopyLiesIn area (Put r colours) = ⊥
+CopyLiesIn area (Copy r sx sy) = (lies_in r area ≡ true) × (lies_in (source_of r sx sy) area ≡ true)
+CopyLiesIn area (Resized size) = ⊥
+
+-- Each copy that is passed on lies in the area, and so does its source.
+abbrev pub CopiesLieIn : Type 0
+CopiesLieIn = (w h : ℕ) (area : Rect) (lacks : ℕ → Bool) (us : List Update) → All (CopyLiesIn area) (passed w h area lacks us).copies
+
+-- The copies that are passed on change nothing of what is held of a tile that none of the updates touches.
+abbrev pub CopiesStayOff : Type 0
+CopiesStayOff =
+    (w h : ℕ) (area : Rect) (lacks : ℕ → Bool) (held : Map (Option ℕ)) (us : List Update) (t x y : ℕ) → list_any (touches (tile_rect w h t)) us ≡ false
+    → holds (tile_rect w h t) x y ≡ true → moved held (passed w h area lacks us).copies x y ≡ held x y
+
+-- Where no copy is passed on, a tile that was lacked before some updates, or that one of them touches, is lacked after
+-- them.
+abbrev pub TouchedIsLacked : Type 0
+TouchedIsLacked =
+    (w h : ℕ) (area : Rect) (lacks : ℕ → Bool) (us : List Update) (t : ℕ) → (passed w h area lacks us).copies ≡ [] → (lacks t || list_any (touches (tile_rect w h t)) us) ≡ true
+    → (passed w h area lacks us).lacks t ≡ true
+
+-- Where the same tiles of the screen were lacked before some updates, the same is passed on of these.
+abbrev pub LackingSame : Type 0
+LackingSame =
+    (w h : ℕ) (area : Rect) (lacks others : ℕ → Bool) (us : List Update) → ((t : ℕ) → t < tile_count w h → others t ≡ lacks t)
+    → IsSamePassed w h (passed w h area lacks us) (passed w h area others us)
 
 -- Two updates that begin with the same copies, and whose other paints touch the same tiles and are no copies, come to
 -- the same.

@@ -1,15 +1,20 @@
 -- What a log keeps of a host's last updates, and what is found by it for a viewer.
 use Rattle.std.specs.Prelude.{◌≡◌, ℕ, ◌+◌, ◌%◌, ◌<◌, ◌≤◌, Bool, false, ◌&&◌, ◌==◌, nat_le, List, [], length, map, slice_index_or, Option, Some, None}
 use Rattle.std.specs.List.{list_any}
+use Rattle.raster.specs.Screen.{IsWithin}
 use Rattle.raster.specs.Update.{Paint, Copy, Update, Bell}
 use Rattle.tiles.specs.Have.{SentTiles, sent_at}
 use Rattle.copy_log.specs.declared.copy_rect.CopyRect.{CopyRect}
 use Rattle.copy_log.specs.declared.log.TheConstants.{KEPT}
-use Rattle.copy_log.specs.Passed.{Passed, BeginsWith}
+use Rattle.copy_log.specs.Passed.{Passed, BeginsWith, source_of}
 
 -- A copy as a paint (RFC 6143, 7.7.2).
 abbrev pub paint_of : CopyRect → Paint
 paint_of copy = Copy copy.area copy.x copy.y
+
+-- A copy lies on a screen of w by h, and so does its source.
+abbrev pub IsOnScreen : ℕ → ℕ → CopyRect → Type 0
+IsOnScreen w h copy = IsWithin copy.area w h × IsWithin (source_of copy.area copy.x copy.y) w h
 
 -- Several copies as paints, in order.
 abbrev pub paints : List CopyRect → List Paint

@@ -15,7 +15,10 @@ mod passed;
 
 pub use copy_rect::CopyRect;
 pub use held::{HeldTiles, SentAt};
-pub use law::{copies_keep_up, lacked_is_touched, passing_goes_on, same_is_passed};
+pub use law::{
+    copies_keep_up, copies_lie_in, copies_stay_off, lacked_is_touched, lacking_same,
+    passing_goes_on, same_is_passed, touched_is_lacked,
+};
 pub use log::{CopyLog, KEPT};
 pub use note::MOST_COPIES;
 pub use passed::{MOST_PASSED, Passed};

@@ -5,6 +5,7 @@ ghost use Rattle.std.specs.List.{list_any};
 ghost use Rattle.copy_log.specs.Notes.{IsSameLog, IsSameScreen, LogStands, is_among, nothing, paints, passed_in, reaches};
 ghost use Rattle.copy_log.specs.Passed.{BeginsWith, IsSamePassed, has_copy, passed};
 ghost use Rattle.copy_log.specs.declared.note.TheConstants.{MOST_COPIES};
+ghost use Rattle.copy_log.specs.declared.passed.TheConstants.{MOST_PASSED};
 ghost use Rattle.fault.specs.declared.kinds.Fault.TheVariants.{Memory};
 ghost use Rattle.raster.specs.Screen.{IsWithin, tile_count};
 ghost use Rattle.raster.specs.Size.{IsScreenSize};
@@ -203,6 +204,7 @@ impl CopyLog {
             × (into.old.height ≡ self.now.height) }
         ensures reaches { result ≡ reaches self.now since }
         ensures size { IsSameScreen into.old into.new }
+        ensures few { result ≡ true → length into.new.copies ≤ MOST_PASSED }
         ensures passed { (us : List Update) → result ≡ true → LogStands self.now us
             → IsSamePassed self.now.width self.now.height
             (passed self.now.width self.now.height area.now (λ t. not (T.held held.now t))

@@ -57,7 +57,8 @@ fn mark_area(marks: &mut [bool], width: u64, height: u64, area: &Rect)
     }
 }
 
-/// Marks each tile of a screen of `width` by `height` that a rectangle meets. The rectangle may reach beyond the screen.
+/// Marks each tile of a screen of `width` by `height` that a rectangle meets. The rectangle may reach beyond the
+/// screen.
 pub(crate) fn mark_met(marks: &mut [bool], width: u64, height: u64, area: &Rect)
     requires size { IsScreenSize width height }
     requires all { length marks.old ≡ tile_count width height }

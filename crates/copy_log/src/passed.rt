@@ -1,7 +1,8 @@
 //! What is passed on to a viewer.
 
 ghost use Rattle.std.specs.Prelude.{◌≡◌, ℕ, ◌+◌, ◌<◌, ◌≤◌, [], not, ◌||◌, length, IfOk, IfErr};
-ghost use Rattle.copy_log.specs.Notes.{IsNoteOf, IsSameScreen, is_marked, paint_of, paints, passed_in};
+ghost use Rattle.std.specs.List.{All};
+ghost use Rattle.copy_log.specs.Notes.{IsNoteOf, IsOnScreen, IsSameScreen, is_marked, paint_of, paints, passed_in};
 ghost use Rattle.copy_log.specs.Passed.{IsSamePassed, can_pass, is_held, passed_after_paint, passed_after_paints};
 ghost use Rattle.fault.specs.declared.kinds.Fault.TheVariants.{Memory};
 ghost use Rattle.raster.specs.Screen.{IsWithin, tile_count, tiles_across};
@@ -22,8 +23,8 @@ use tiles::{DueTiles, Walk};
 /// How many copies are passed on at most: all that a log keeps.
 pub const MOST_PASSED: usize = 64;
 
-/// The copies of the host that a viewer is sent, in order, and the tiles that it lacks behind them. Those tiles count as
-/// due: a walk over them brings what the viewer is sent besides the copies.
+/// The copies of the host that a viewer is sent, in order, and the tiles that it lacks behind them. Those tiles count
+/// as due: a walk over them brings what the viewer is sent besides the copies.
 #[derive(Drop)]
 pub struct Passed {
     width: u64,
@@ -34,7 +35,8 @@ pub struct Passed {
 
 impl Model for Passed {
     ghost use Rattle.std.specs.Prelude.{◌≡◌, length};
-    ghost use Rattle.copy_log.specs.Notes.{PassedOn};
+    ghost use Rattle.std.specs.List.{All};
+    ghost use Rattle.copy_log.specs.Notes.{IsOnScreen, PassedOn};
     ghost use Rattle.raster.specs.Screen.{tile_count};
     ghost use Rattle.raster.specs.Size.{IsScreenSize};
 
@@ -48,7 +50,8 @@ impl Model for Passed {
     } };
 
     ghost invariant = { λ p. IsScreenSize p.width p.height
-        × (length p.lacks.items ≡ tile_count p.width p.height) };
+        × (length p.lacks.items ≡ tile_count p.width p.height)
+        × All (IsOnScreen p.width p.height) p.copies.items };
 }
 
 /// Marks each tile that isn't held.
@@ -101,6 +104,7 @@ impl Passed {
     pub fn copies(&self) -> &[CopyRect]
         ensures value { result.now ≡ self.now.copies }
         ensures few { length result.now ≤ MOST_PASSED }
+        ensures on { All (IsOnScreen self.now.width self.now.height) result.now }
     {
         self.copies.as_slice()
     }
@@ -111,6 +115,15 @@ impl Passed {
         ensures { result ≡ is_marked self.now.lacks t }
     {
         self.lacks[t as usize]
+    }
+
+    /// There are no copies any longer. Which tiles are lacked stays.
+    pub fn clear(&mut self)
+        ensures size { IsSameScreen self.old self.new }
+        ensures copies { self.new.copies ≡ [] }
+        ensures lacks { self.new.lacks ≡ self.old.lacks }
+    {
+        self.copies.clear();
     }
 
     /// Begins with no copies. Whatever isn't held is lacked.

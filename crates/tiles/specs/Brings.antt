@@ -17,11 +17,11 @@ abbrev pub some_holds : List Rect → ℕ → ℕ → Bool
 some_holds rs x y = list_any (λ r. holds r x y) rs
 
 -- These rectangles hold exactly the positions of an area that lie in due tiles. Each is a part of the screen. There are
--- few enough for a FramebufferUpdate, which counts its rectangles in 16 bits.
+-- few enough for a FramebufferUpdate, which counts its rectangles in 16 bits, and for some in front of them.
 pub record BringTheDue (w h : ℕ) (area : Rect) (due : ℕ → Bool) (rs : List Rect) : Type 0 where
   pub exactly : (t x y : ℕ) → t < tile_count w h → holds (tile_rect w h t) x y ≡ true → some_holds rs x y ≡ (holds area x y && due t)
   pub parts : All (IsPart w h) rs
-  pub few : length rs < 2 ^ 16
+  pub few : length rs ≤ 2 ^ 15
 
 -- The runs of an area bring exactly what is due.
 abbrev pub RunsBringTheDue : Type 0

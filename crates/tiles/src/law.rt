@@ -3,8 +3,8 @@
 ghost use Rattle.tiles.specs.Brings.{DueWhereTouched, RunsBringTheDue, UntouchedStays};
 
 /// The runs of an area hold exactly the positions of the area that lie in due tiles. Each is a part of the screen and
-/// not empty, and there are fewer than 65,536, which is what the count of a FramebufferUpdate can say (RFC 6143,
-/// section 7.6.1).
+/// not empty, and there are at most 32,768: the count of a FramebufferUpdate, which goes up to 65,535, leaves room for
+/// copies in front of them (RFC 6143, section 7.6.1).
 pub fn runs_bring_the_due()
     ensures { RunsBringTheDue }
 {}

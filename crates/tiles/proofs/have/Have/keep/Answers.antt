@@ -5,7 +5,7 @@ use Rattle.std.specs.Vec.{with_items}
 use Rattle.raster.specs.Screen.{common, lies_in, tile_count, tile_rect, tiles_across}
 use Rattle.tiles.specs.Have.{SentTiles, HaveStands}
 use Rattle.raster.specs.declared.size.Size.{Size}
-use Rattle.tiles.specs.Touched.{Answered, known_part, last_sent, told_last}
+use Rattle.tiles.specs.Touched.{Answered, known_part, last_sent}
 use Rattle.tiles.proofs.Marks.{IsFilled, IsMarked, marked_by_rect}
 use Rattle.tiles.proofs.HaveLaws.{stands_marked}
 use Rattle.tiles.proofs.have.Have.keep.Goals as goal
