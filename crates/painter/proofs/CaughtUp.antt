@@ -9,6 +9,7 @@ use Rattle.raster.specs.declared.size.Size.{Size}
 use Rattle.raster.specs.Update.{NumberedText, Update, paints_of, screen, size_after_update}
 use Rattle.tiles.specs.Grid.{IsCaughtUp, IsTouched, Stamps, is_lacked, stamp_at}
 use Rattle.tiles.specs.Touched.{last_touch, touches}
+use Rattle.copy_log.specs.Notes.{Log, LogStands}
 use Rattle.painter.specs.Board.{BoardStands, Posted}
 use Rattle.painter.specs.Kept.{is_later, newer}
 use Rattle.painter.specs.Newer.{TookTiles}
@@ -16,11 +17,11 @@ use Rattle.painter.specs.Patch.{ShowsOver, SizedUpdate, is_bell, text_of, tile_p
 use Rattle.painter.proofs.NewerLaws.{AreGrids, agrees, grid_caught_up, shows_over, text_caught_up}
 use Rattle.painter.proofs.ViewLaws.{stands-push}
 
-looks_at : (w h v k : ℕ) (colours : List ℕ) (us : List Update) → w ≡ v → h ≡ k → LooksLike w h (value_at w colours) (screen us) → LooksLike v k (value_at v colours) (screen us)
+pub looks_at : (w h v k : ℕ) (colours : List ℕ) (us : List Update) → w ≡ v → h ≡ k → LooksLike w h (value_at w colours) (screen us) → LooksLike v k (value_at v colours) (screen us)
 looks_at w h v k colours us wide high looks =
     subst (λ q. LooksLike v q (value_at v colours) (screen us)) high (subst (λ p. LooksLike p h (value_at p colours) (screen us)) wide looks)
 
-stands_at : (w h v k : ℕ) (grid : Stamps) (us : List Update) → w ≡ v → h ≡ k → ((t : ℕ) → t < tile_count w h → stamp_at grid t ≡ last_touch (tile_rect w h t) us)
+pub stands_at : (w h v k : ℕ) (grid : Stamps) (us : List Update) → w ≡ v → h ≡ k → ((t : ℕ) → t < tile_count w h → stamp_at grid t ≡ last_touch (tile_rect w h t) us)
     → (t : ℕ) → t < tile_count v k → stamp_at grid t ≡ last_touch (tile_rect v k t) us
 stands_at w h v k grid us wide high each =
     subst (λ q. (t : ℕ) → t < tile_count v q → stamp_at grid t ≡ last_touch (tile_rect v q t) us) high
@@ -40,20 +41,20 @@ Agree w h u mid over =
 agree_at : (w h v k : ℕ) (u : Update) (mid over : List ℕ) → w ≡ v → h ≡ k → Agree w h u mid over → Agree v k u mid over
 agree_at w h v k u mid over wide high agree = subst (λ q. Agree v q u mid over) high (subst (λ p. Agree p h u mid over) wide agree)
 
-pub board_caught_up : (behind ahead : Posted) (patch : SizedUpdate) (marked touched : Stamps) (ts tiles mid new : List ℕ) (count : ℕ) (last : Option NumberedText) (text : Option (List ℕ)) (larger : Option Size) (us : List Update)
+pub board_caught_up : (behind ahead : Posted) (patch : SizedUpdate) (marked touched : Stamps) (ts tiles mid new : List ℕ) (count : ℕ) (last : Option NumberedText) (text : Option (List ℕ)) (larger : Option Size) (noted : Log) (us : List Update)
     → ahead.width ≡ behind.width → ahead.height ≡ behind.height → ahead.grid.width ≡ ahead.width → ahead.grid.height ≡ ahead.height → behind.grid.width ≡ behind.width → behind.grid.height ≡ behind.height
     → (patch.width ≡ behind.width) × (patch.height ≡ behind.height)
     → IsTouched (λ t. touches (tile_rect behind.grid.width behind.grid.height t) patch.update) (ahead.number + 1) behind.grid marked
     → TookTiles ahead.grid.width ahead.grid.height (is_lacked marked ahead.grid behind.number) ahead.colours behind.colours mid
     → tile_paints patch.width patch.height ts tiles ≡ paints_of patch.update → ShowsOver patch mid new → IsCaughtUp ahead.grid behind.number marked touched
-    → last ≡ (if is_later ahead.text behind.number then ahead.text else behind.text) → count ≡ from_bool (is_bell patch.update) → text ≡ text_of patch.update → larger ≡ size_after_update ahead.size patch.update
+    → last ≡ (if is_later ahead.text behind.number then ahead.text else behind.text) → count ≡ from_bool (is_bell patch.update) → text ≡ text_of patch.update → larger ≡ size_after_update ahead.size patch.update → LogStands noted (us ++ patch.update ∷ [])
     → BoardStands behind (take behind.number us) → BoardStands ahead us
-    → BoardStands (record { width = behind.width; height = behind.height; number = ahead.number + 1; size = larger; colours = new; grid = touched; bells = ahead.bells + count; text = newer last (ahead.number + 1) text }) (us ++ patch.update ∷ [])
-board_caught_up behind ahead patch marked touched ts tiles mid new count last text larger us wide high ahead_wide ahead_high behind_wide behind_high size touches_it took are shows caught is_last is_count is_text is_size stood stands =
-    subst (λ (t : Option NumberedText). BoardStands (record { width = behind.width; height = behind.height; number = m; size = larger; colours = new; grid = touched; bells = ahead.bells + count; text = newer t m text }) (us ++ u ∷ []))
+    → BoardStands (record { width = behind.width; height = behind.height; number = ahead.number + 1; size = larger; colours = new; grid = touched; bells = ahead.bells + count; text = newer last (ahead.number + 1) text; log = noted }) (us ++ patch.update ∷ [])
+board_caught_up behind ahead patch marked touched ts tiles mid new count last text larger noted us wide high ahead_wide ahead_high behind_wide behind_high size touches_it took are shows caught is_last is_count is_text is_size notes stood stands =
+    subst (λ (t : Option NumberedText). BoardStands (record { width = behind.width; height = behind.height; number = m; size = larger; colours = new; grid = touched; bells = ahead.bells + count; text = newer t m text; log = noted }) (us ++ u ∷ []))
     (sym (is_last ∙ text_caught_up us n ahead.text behind.text stands.text stood.text))
-    (subst (λ q. BoardStands (record { width = behind.width; height = q; number = m; size = larger; colours = new; grid = touched; bells = ahead.bells + count; text = newer ahead.text m text }) (us ++ u ∷ [])) high
-    (subst (λ p. BoardStands (record { width = p; height = ahead.height; number = m; size = larger; colours = new; grid = touched; bells = ahead.bells + count; text = newer ahead.text m text }) (us ++ u ∷ [])) wide all))
+    (subst (λ q. BoardStands (record { width = behind.width; height = q; number = m; size = larger; colours = new; grid = touched; bells = ahead.bells + count; text = newer ahead.text m text; log = noted }) (us ++ u ∷ [])) high
+    (subst (λ p. BoardStands (record { width = p; height = ahead.height; number = m; size = larger; colours = new; grid = touched; bells = ahead.bells + count; text = newer ahead.text m text; log = noted }) (us ++ u ∷ [])) wide all))
   where
     u : Update
     u = patch.update
@@ -96,5 +97,5 @@ board_caught_up behind ahead patch marked touched ts tiles mid new count last te
     grid : IsTouched (λ t. touches (tile_rect w h t) u) m ahead.grid touched
     grid = grid_caught_up n m us u behind.grid marked ahead.grid touched (sym grid_wide ∙ sym touches_it.width) (sym grid_high ∙ sym touches_it.height) grids caught
 
-    all : BoardStands (record { width = ahead.width; height = ahead.height; number = m; size = larger; colours = new; grid = touched; bells = ahead.bells + count; text = newer ahead.text m text }) (us ++ u ∷ [])
-    all = stands-push ahead patch ahead.width ahead.height ahead.number ahead.bells count ahead.colours new ahead.grid touched ahead.text text ahead.size larger us refl (size.0 ∙ sym wide, size.1 ∙ sym high) over grid is_count is_text is_size stands
+    all : BoardStands (record { width = ahead.width; height = ahead.height; number = m; size = larger; colours = new; grid = touched; bells = ahead.bells + count; text = newer ahead.text m text; log = noted }) (us ++ u ∷ [])
+    all = stands-push ahead patch ahead.width ahead.height ahead.number ahead.bells count ahead.colours new ahead.grid touched ahead.text text ahead.size larger ahead.log noted us refl (size.0 ∙ sym wide, size.1 ∙ sym high) over grid is_count is_text is_size (λ was. notes) stands

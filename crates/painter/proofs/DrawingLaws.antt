@@ -7,8 +7,10 @@ use Rattle.raster.specs.Update.{Paint, Paints, Put, after_paints}
 use Rattle.raster.proofs.Places.{Has, has_holds}
 use Rattle.raster.proofs.Screens.{after_paints-more, size_after_paints-more}
 use Rattle.tiles.specs.Touched.{touches}
+use Rattle.painter.specs.Copies.{leading_copies, other_paints}
 use Rattle.painter.specs.Drawing.{IsPaintedAround, drawn}
 use Rattle.painter.specs.Painter.{Painting, IsAsLarge, IsPaintedOver, is_touched, worked}
+use Rattle.painter.proofs.CopyLaws.{comes_behind, leads_no_more, not_late}
 use Rattle.painter.proofs.PaintingLaws.{mark_is, touches_more}
 
 laid : (area : Rect) (screen over under : Canvas) (x y : ℕ) (b : Bool) → holds area x y ≡ b → (b ≡ true → screen x y ≡ over (x - area.x) (y - area.y)) → (b ≡ false → screen x y ≡ under x y) → screen x y ≡ lay area over under x y
@@ -23,13 +25,15 @@ inside_of area screen over x y looks has =
     ∙ looks (x - area.x) (y - area.y) (omega (arith, has.left, has.right)) (omega (arith, has.top, has.bottom)))
 
 -- What was painted around a rectangle, and what that shows, with its tiles marked, are one paint more.
-pub painted_around : (old new : Painting) (colours : List ℕ) → IsAsLarge old new → new.colours ≡ old.colours → new.told ≡ old.told
+pub painted_around : (old new : Painting) (colours : List ℕ) → IsAsLarge old new → new.colours ≡ old.colours → new.told ≡ old.told → new.copies ≡ old.copies → new.leads ≡ false
     → ((t : ℕ) → t < tile_count old.width old.height → slice_index new.marks t ≡ (if meets old.area (tile_rect old.width old.height t) then 1 else slice_index old.marks t))
     → (start : Canvas) (ps : List Paint) → IsPaintedAround start ps old.area old → LooksLike old.area.w old.area.h (drawn old) (value_at old.area.w colours) → IsPaintedOver start (ps ++ Put old.area colours ∷ []) new
-painted_around old new colours large same told marks start ps around shows =
+painted_around old new colours large same told kept ends marks start ps around shows =
     record {
       shows = by_size (λ w h. LooksLike w h (value_at w new.colours) (after_paints start (ps ++ Put old.area colours ∷ []))) (rw same looks);
-      touched = by_size (λ w h. (t : ℕ) → t < tile_count w h → is_touched new t ≡ touches (tile_rect w h t) (Paints None (ps ++ Put old.area colours ∷ []))) tiles;
+      copies = kept ∙ (around.copies ∙ sym behind.0);
+      leads = ends ∙ sym (leads_no_more ps (Put old.area colours) behind.1);
+      touched = by_size (λ w h. (t : ℕ) → t < tile_count w h → is_touched new t ≡ touches (tile_rect w h t) (Paints None (other_paints (ps ++ Put old.area colours ∷ [])))) tiles;
       told = told ∙ (around.told ∙ sym (size_after_paints-more None ps (Put old.area colours)));
     }
   where
@@ -43,7 +47,12 @@ painted_around old new colours large same told marks start ps around shows =
         (λ e. around.shows x y lx ly e)
         ∙ ap (λ (c : Canvas). c x y) (sym (after_paints-more start ps (Put old.area colours)))
 
-    tiles : (t : ℕ) → t < tile_count old.width old.height → is_touched new t ≡ touches (tile_rect old.width old.height t) (Paints None (ps ++ Put old.area colours ∷ []))
+    behind : (leading_copies (ps ++ Put old.area colours ∷ []) ≡ leading_copies ps) × (other_paints (ps ++ Put old.area colours ∷ []) ≡ other_paints ps ++ Put old.area colours ∷ [])
+    behind = comes_behind old.leads ps (Put old.area colours) around.leads (not_late old.leads (Put old.area colours) refl)
+
+    tiles : (t : ℕ) → t < tile_count old.width old.height → is_touched new t ≡ touches (tile_rect old.width old.height t) (Paints None (other_paints (ps ++ Put old.area colours ∷ [])))
     tiles t lt =
         let r : Rect = tile_rect old.width old.height t in
-        ap (λ k. k == 1) (marks t lt) ∙ (mark_is (meets old.area r) (touches r (Paints None ps)) (slice_index old.marks t) (around.touched t lt) ∙ sym (touches_more r ps (Put old.area colours)))
+        ap (λ k. k == 1) (marks t lt)
+        ∙ (mark_is (meets old.area r) (touches r (Paints None (other_paints ps))) (slice_index old.marks t) (around.touched t lt)
+        ∙ (sym (touches_more r (other_paints ps) (Put old.area colours)) ∙ sym (ap (λ qs. touches r (Paints None qs)) behind.1)))

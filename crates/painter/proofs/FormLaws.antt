@@ -1,16 +1,17 @@
 -- A tile's kept form stays its colours' form for as long as these stay: a form asks of a tile's positions alone, and a
 -- patch paints those of its tiles.
-use Rattle.std.proofs.Common.{◌≡◌, ◌≢◌, ℕ, suc, ◌+◌, ◌-◌, ◌*◌, ◌<◌, ◌≤◌, ◌^◌, Bool, false, List, [], ◌∷◌, length, take, drop, map, get_or, Option, None, refl, ap, sym, subst, ◌∙◌, arith, zero-add, inl, inr}
+use Rattle.std.proofs.Common.{◌≡◌, ◌≢◌, ℕ, suc, ◌+◌, ◌-◌, ◌*◌, ◌<◌, ◌≤◌, ◌^◌, Bool, true, false, List, [], ◌∷◌, ◌++◌, length, take, drop, map, get_or, Option, None, refl, ap, sym, subst, ◌∙◌, arith, zero-add, inl, inr}
 use Rattle.std.specs.Prelude.{◌==◌, ◌||◌, if◌then◌else◌, slice_index_or, IfSome}
 use Rattle.std.specs.List.{AllPairs, list_any}
-use Rattle.std.proofs.Math.Nat.{mul_comm}
+use Rattle.std.proofs.Math.Nat.{mul-le-mul_right, mul_comm}
 use Rattle.std.proofs.lemmas.Bool.{both_ways, cases_Bool, cases_eq, cases_lt, eq-eqb, ne_eqb}
 use Rattle.std.proofs.lemmas.List.{get_or_past}
-use Rattle.std.proofs.lemmas.List.Folds.{list_any_none}
+use Rattle.std.proofs.lemmas.List.Folds.{list_any-append, list_any_at, list_any_none}
 use Rattle.std.proofs.lemmas.List.Kept.{AllPairs-from_increasing}
 use Rattle.raster.specs.declared.rect.Rect.{Rect}
 use Rattle.raster.specs.Screen.{Canvas, IsWithin, LooksLike, lay, meets, part_of, tile_count, tile_rect, value_at}
 use Rattle.raster.specs.Encoding.{Subrect}
+use Rattle.raster.specs.Size.{IsScreenSize}
 use Rattle.raster.specs.declared.tile.TheConstants.{TILE_SIDE}
 use Rattle.raster.specs.Update.{Paint, Put, after_paint, after_paints, painted, paints_of}
 use Rattle.raster.proofs.Places.{Has, holds_has}
@@ -28,9 +29,13 @@ use Rattle.hextile_codec.specs.Kept.{AreFormsOf, FormStands}
 use Rattle.hextile_codec.specs.TileKinds.{kind_of}
 use Rattle.hextile_codec.specs.Marks.{LiesAmong}
 use Rattle.hextile_codec.proofs.KeptForms.{if_some}
-use Rattle.painter.specs.Forms.{AreFormsBut, TookForms}
+use Rattle.copy_log.specs.Notes.{paint_of}
+use Rattle.painter.specs.Copies.{leading_copies, other_paints}
+use Rattle.copy_log.specs.declared.copy_rect.CopyRect.{CopyRect}
+use Rattle.painter.specs.Forms.{AreFormsBut, AreUncopiedForms, TookForms}
 use Rattle.painter.specs.Newer.{TookTiles}
 use Rattle.painter.specs.Patch.{AreTiles, AreTouchedTiles, IsPainted, ShowsOver, ShowsTiles, SizedUpdate, tile_area, tile_paints}
+use Rattle.painter.proofs.CopyLaws.{after_both, all_paints, meets_copies}
 use Rattle.painter.proofs.PatchLaws.{meets_tiles, others, tile_within}
 use Rattle.painter.proofs.TilePuts.{meet_by}
 
@@ -111,6 +116,19 @@ lies_alone w h colours count wide high =
       high = omega (arith, high);
     }
 
+-- And each tile of a screen lies among the screen's.
+pub lies_on_screen : (w h t : ℕ) (colours : List ℕ) → IsScreenSize w h → length colours ≡ w * h → t < tile_count w h → LiesAmong colours w (tile_rect w h t)
+lies_on_screen w h t colours size count lt =
+    let r : Rect = tile_rect w h t in
+    let within : IsWithin r w h = tile_within w h t (omega (arith, size.wide.0)) lt in
+    let rows : (r.y + r.h) * w ≤ h * w = mul-le-mul_right w within.down in
+    record {
+      across = within.across;
+      down = omega (arith, rows, mul_comm h w, count);
+      wide = omega (arith, size.wide.1);
+      high = omega (arith, within.down, size.high.1);
+    }
+
 -- ---- where the forms are kept
 
 pub none_stands : (w h t : ℕ) (colours : Canvas) (form : Option TileForm) → form ≡ None → Stands w h colours t form
@@ -127,7 +145,7 @@ stands_longer w h colours forms longer t same stands = elim (cases_lt t (length 
 -- ---- the tiles of a patch
 
 -- Two tiles don't meet.
-tiles_apart : (w h k t : ℕ) → (k == t) ≡ false → meets (tile_rect w h k) (tile_rect w h t) ≡ false
+pub tiles_apart : (w h k t : ℕ) → (k == t) ≡ false → meets (tile_rect w h k) (tile_rect w h t) ≡ false
 tiles_apart w h k t ne = meet_by w h k t (meets (tile_rect w h k) (tile_rect w h t)) refl (λ same. both_ways (k == t) ne (eq-eqb k t same))
 
 none_met : (w h t : ℕ) (ts : List ℕ) → list_any (λ k. k == t) ts ≡ false → list_any (λ k. meets (tile_rect w h k) (tile_rect w h t)) ts ≡ false
@@ -136,12 +154,25 @@ none_met w h t (k ∷ ts) e =
     ap (λ b. b || list_any (λ j. meets (tile_rect w h j) (tile_rect w h t)) ts) (tiles_apart w h k t (or_left (k == t) (list_any (λ j. j == t) ts) e))
     ∙ none_met w h t ts (or_right (k == t) (list_any (λ j. j == t) ts) e)
 
--- A tile that isn't one of a patch's isn't touched by it.
-pub untouched_but : (patch : SizedUpdate) (t : ℕ) (ts tiles : List ℕ) → tile_paints patch.width patch.height ts tiles ≡ paints_of patch.update → list_any (λ k. k == t) ts ≡ false
-    → touches (tile_rect patch.width patch.height t) patch.update ≡ false
-untouched_but patch t ts tiles are none =
+-- A patch paints its copies, and then its tiles.
+pub paints_are : (patch : SizedUpdate) (cs : List CopyRect) (ts tiles : List ℕ) → map paint_of cs ≡ leading_copies (paints_of patch.update) → tile_paints patch.width patch.height ts tiles ≡ other_paints (paints_of patch.update)
+    → map paint_of cs ++ tile_paints patch.width patch.height ts tiles ≡ paints_of patch.update
+paints_are patch cs ts tiles copies are = (λ i. copies i ++ are i) ∙ all_paints (paints_of patch.update)
+
+or_none : (a b : Bool) → a ≡ false → b ≡ false → (a || b) ≡ false
+or_none true b e f = absurd cc
+or_none false b e f = f
+
+-- A tile that isn't one of a patch's, and that none of its copies meets, isn't touched by it.
+pub untouched_but : (patch : SizedUpdate) (t : ℕ) (cs : List CopyRect) (ts tiles : List ℕ) → map paint_of cs ++ tile_paints patch.width patch.height ts tiles ≡ paints_of patch.update → list_any (λ k. k == t) ts ≡ false
+    → list_any (λ c. meets c.area (tile_rect patch.width patch.height t)) cs ≡ false → touches (tile_rect patch.width patch.height t) patch.update ≡ false
+untouched_but patch t cs ts tiles are none uncopied =
     let r : Rect = tile_rect patch.width patch.height t in
-    ap (λ (ps : List Paint). list_any (λ p. meets (painted p) r) ps) (sym are) ∙ (meets_tiles patch.width patch.height r ts tiles ∙ none_met patch.width patch.height t ts none)
+    let met : Paint → Bool = λ p. meets (painted p) r in
+    ap (list_any met) (sym are)
+    ∙ (list_any-append met (map paint_of cs) (tile_paints patch.width patch.height ts tiles)
+    ∙ or_none (list_any met (map paint_of cs)) (list_any met (tile_paints patch.width patch.height ts tiles)) (meets_copies r cs ∙ uncopied)
+    (meets_tiles patch.width patch.height r ts tiles ∙ none_met patch.width patch.height t ts none))
 
 -- It looks as it did.
 pub unpainted : (patch : SizedUpdate) (t : ℕ) (old new : List ℕ) (x y : ℕ) → ShowsOver patch old new → touches (tile_rect patch.width patch.height t) patch.update ≡ false
@@ -155,6 +186,13 @@ pub stand_but : (patch : SizedUpdate) (old new : List ℕ) (forms : List (Option
     → (t : ℕ) → t < length forms → t < tile_count patch.width patch.height → touches (tile_rect patch.width patch.height t) patch.update ≡ false → Stands patch.width patch.height (value_at patch.width new) t (slice_index_or forms t None)
 stand_but patch old new forms some shows stand t there lt out =
     stands_on patch.width patch.height t (value_at patch.width old) (value_at patch.width new) (slice_index_or forms t None) some lt (λ x y has. unpainted patch t old new x y shows out has) (stand t there lt)
+
+-- Forms of colours are those of equal colours on a screen of the same size.
+pub forms_at : (w h v k : ℕ) (colours others : List ℕ) (forms : List (Option TileForm)) → w ≡ v → h ≡ k → colours ≡ others
+    → AreFormsOf w h (value_at w colours) forms → AreFormsOf v k (value_at v others) forms
+forms_at w h v k colours others forms wide high same are =
+    subst (λ cs. AreFormsOf v k (value_at v cs) forms) same
+    (subst (λ q. AreFormsOf v q (value_at v colours) forms) high (subst (λ p. AreFormsOf p h (value_at p colours) forms) wide are))
 
 -- ---- what a patch shows
 
@@ -193,12 +231,70 @@ shown_tiles w h (t ∷ ts) colours before screen lw are rising shows =
     )
 
 -- So a screen shows the tiles of a patch once it was painted.
-pub patch_shown : (patch : SizedUpdate) (colours ts tiles : List ℕ) → 0 < patch.width → tile_paints patch.width patch.height ts tiles ≡ paints_of patch.update
+pub patch_shown : (patch : SizedUpdate) (colours : List ℕ) (cs : List CopyRect) (ts tiles : List ℕ) → 0 < patch.width → map paint_of cs ++ tile_paints patch.width patch.height ts tiles ≡ paints_of patch.update
     → AreTouchedTiles patch.width patch.height ts tiles → IsPainted patch colours → ShowsTiles patch.width patch.height ts tiles (value_at patch.width colours)
-patch_shown patch colours ts tiles lw paints are shown =
+patch_shown patch colours cs ts tiles lw paints are shown =
     let before : Canvas = value_at patch.width shown.0 in
-    shown_tiles patch.width patch.height ts tiles before (value_at patch.width colours) lw are.tiles (AllPairs-from_increasing ts are.rising)
-    (subst (λ (ps : List Paint). LooksLike patch.width patch.height (value_at patch.width colours) (after_paints before ps)) (sym paints) (shown.1 before (λ x y lx ly. refl)))
+    let split : after_paints before (paints_of patch.update) ≡ after_paints (after_paints before (map paint_of cs)) (tile_paints patch.width patch.height ts tiles) =
+    ap (after_paints before) (sym paints) ∙ after_both before (map paint_of cs) (tile_paints patch.width patch.height ts tiles) in
+    shown_tiles patch.width patch.height ts tiles (after_paints before (map paint_of cs)) (value_at patch.width colours) lw are.tiles (AllPairs-from_increasing ts are.rising)
+    (subst (λ (s : Canvas). LooksLike patch.width patch.height (value_at patch.width colours) s) split (shown.1 before (λ x y lx ly. refl)))
+
+-- ---- the tiles that copies meet
+
+-- Of the tiles before next, those that a copy meets have the form of their colours, and those behind have what they
+-- had.
+pub record HasRenewed (w h : ℕ) (copies : List CopyRect) (others : List ℕ) (colours : Canvas) (next : ℕ) (old new : List (Option TileForm)) : Type 0 where
+  pub len : length new ≡ length old
+  pub before : AreUncopiedForms copies others w h colours old → (t : ℕ) → t < next → t < length new → t < tile_count w h → list_any (λ k. k == t) others ≡ false → Stands w h colours t (slice_index_or new t None)
+  pub behind : (t : ℕ) → next ≤ t → slice_index_or new t None ≡ slice_index_or old t None
+
+pub none_renewed : (w h : ℕ) (copies : List CopyRect) (others : List ℕ) (colours : Canvas) (old : List (Option TileForm)) → HasRenewed w h copies others colours 0 old old
+none_renewed w h copies others colours old = record { len = refl; before = λ stood t less there lt none. absurd (omega (arith, less)); behind = λ t le. refl }
+
+module _ (w h : ℕ) (copies : List CopyRect) (others : List ℕ) (colours : Canvas) (t : ℕ) (old mid : List (Option TileForm)) (was : HasRenewed w h copies others colours t old mid) where
+  -- It stays as it is, where that is the form of its colours.
+  stays_renewed : (AreUncopiedForms copies others w h colours old → t < length mid → t < tile_count w h → list_any (λ k. k == t) others ≡ false → Stands w h colours t (slice_index_or mid t None)) → HasRenewed w h copies others colours (t + 1) old mid
+  stays_renewed here =
+      record {
+        len = was.len;
+        before = λ stood k less there lt none. elim (cases_lt k t) [
+          | inl below ↦ was.before stood k below there lt none
+          | inr from ↦
+              let same : k ≡ t = omega (arith, less, from) in
+              subst (λ i. Stands w h colours i (slice_index_or mid i None)) (sym same)
+              (here stood (subst (λ i. i < length mid) same there) (subst (λ i. i < tile_count w h) same lt) (subst (λ i. list_any (λ j. j == i) others ≡ false) same none))
+        ];
+        behind = λ k le. was.behind k (omega (arith, le));
+      }
+
+  -- It is one that the patch brings.
+  pub brought_next : list_any (λ k. k == t) others ≡ true → HasRenewed w h copies others colours (t + 1) old mid
+  brought_next is = stays_renewed (λ stood there lt none. absurd (both_ways (list_any (λ k. k == t) others) none is))
+
+  -- No copy meets it.
+  pub uncopied_next : list_any (λ c. meets c.area (tile_rect w h t)) copies ≡ false → HasRenewed w h copies others colours (t + 1) old mid
+  uncopied_next none_meets =
+      stays_renewed (λ stood there lt none.
+      subst (λ (form : Option TileForm). Stands w h colours t form) (sym (was.behind t (omega arith))) (stood t (omega (arith, there, was.len)) lt none none_meets))
+
+  -- It is given the form of its colours.
+  pub copied_next : (new : List (Option TileForm)) → length new ≡ length mid → (t < length new → Stands w h colours t (slice_index_or new t None))
+      → ((k : ℕ) → k ≢ t → slice_index_or new k None ≡ slice_index_or mid k None) → HasRenewed w h copies others colours (t + 1) old new
+  copied_next new len here same =
+      record {
+        len = len ∙ was.len;
+        before = λ stood k less there lt none. elim (cases_eq k t) [
+          | inl is ↦ subst (λ i. Stands w h colours i (slice_index_or new i None)) (sym is) (here (omega (arith, there, is)))
+          | inr ne ↦
+              subst (λ (form : Option TileForm). Stands w h colours k form) (sym (same k ne)) (was.before stood k (omega (arith, less, ne)) (omega (arith, there, len)) lt none)
+        ];
+        behind = λ k le. same k (λ e. omega (arith, le, e)) ∙ was.behind k (omega (arith, le));
+      }
+
+-- A number at a place is one of them.
+pub number_there : (numbers : List ℕ) (i t : ℕ) → i < length numbers → get_or numbers i 0 ≡ t → list_any (λ k. k == t) numbers ≡ true
+number_there numbers i t lt is = list_any_at (λ k. k == t) numbers i 0 lt (eq-eqb (get_or numbers i 0) t is)
 
 -- ---- one tile more
 

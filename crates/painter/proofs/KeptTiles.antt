@@ -1,4 +1,5 @@
--- The tiles of an area of whole tiles are tiles of the screen. So the forms that are kept of these are those of the area's.
+-- The tiles of an area of whole tiles are tiles of the screen. So the forms that are kept of these are those of the
+-- area's.
 use Rattle.std.proofs.Common.{◌≡◌, ℕ, zero, suc, ◌+◌, ◌-◌, ◌*◌, ◌/◌, ◌%◌, ◌<◌, ◌≤◌, ◌⊎◌, inl, inr, List, length, take, drop, min, Option, None, sym, ap, ◌∙◌, arith}
 use Rattle.std.specs.Prelude.{IfSome, slice_index_or}
 use Rattle.std.proofs.lemmas.List.{get_or-take, get_or-drop, length-take, length-drop}

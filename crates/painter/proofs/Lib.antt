@@ -1,3 +1,4 @@
+pub mod CopyLaws
 pub mod PatchLaws
 pub mod TouchLaws
 pub mod ViewLaws
@@ -10,6 +11,8 @@ pub mod TileColours
 pub mod Switches
 pub mod NewerLaws
 pub mod CaughtUp
+pub mod TakenOver
 pub mod FormLaws
+pub mod NoteLaws
 pub mod KeptTiles
 pub mod EncodedLaws

@@ -12,6 +12,7 @@ use Rattle.raster.specs.Update.{Paint, Put, after_paint, after_paints, painted}
 use Rattle.raster.proofs.Screens.{looks_after}
 use Rattle.tiles.proofs.Ranges.{IsTile, tile_is}
 use Rattle.painter.specs.Patch.{AreTiles, tile_area, tile_paints}
+use Rattle.painter.proofs.CopyLaws.{LeadNone}
 
 -- What looks alike looks alike after paints that fit.
 pub looks_after_all : (w h : ℕ) (a b : Canvas) (ps : List Paint) → All (Fits w h) ps → LooksLike w h a b → LooksLike w h (after_paints a ps) (after_paints b ps)
@@ -63,3 +64,10 @@ put_first w h t ts colours old new lw are shows =
 pub meets_tiles : (w h : ℕ) (r : Rect) (ts colours : List ℕ) → list_any (λ p. meets (painted p) r) (tile_paints w h ts colours) ≡ list_any (λ k. meets (tile_rect w h k) r) ts
 meets_tiles w h r [] colours = refl
 meets_tiles w h r (t ∷ ts) colours = ap (λ b. meets (tile_rect w h t) r || b) (meets_tiles w h r ts (drop (tile_area w h t) colours))
+
+-- No copy leads them.
+pub tiles_lead_none : (w h : ℕ) (ts colours : List ℕ) → LeadNone (tile_paints w h ts colours)
+tiles_lead_none w h [] colours zero = refl
+tiles_lead_none w h [] colours (suc n) = refl
+tiles_lead_none w h (t ∷ ts) colours zero = refl
+tiles_lead_none w h (t ∷ ts) colours (suc n) = refl

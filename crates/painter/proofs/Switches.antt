@@ -1,5 +1,5 @@
 -- A black screen of which all tiles are touched brings a switch, over whatever was shown before.
-use Rattle.std.proofs.Common.{◌≡◌, ℕ, ◌+◌, ◌<◌, ◌≤◌, true, Some, List, [], ◌∷◌, ◌++◌, sym, ap, subst, ◌∙◌, arith}
+use Rattle.std.proofs.Common.{◌≡◌, ℕ, ◌<◌, ◌≤◌, true, false, Some, List, [], ◌∷◌, ◌++◌, refl, sym, ap, subst, ◌∙◌, arith}
 use Rattle.std.specs.Prelude.{if◌then◌else◌, slice_index}
 use Rattle.raster.specs.declared.rect.Rect.{Rect}
 use Rattle.raster.specs.Screen.{Canvas, IsWithin, LooksLike, fill, holds, meets, opening, tile_count, tile_rect, whole_screen}
@@ -10,6 +10,7 @@ use Rattle.raster.specs.Switch.{switch_to}
 use Rattle.raster.proofs.Places.{Has, holds_has, meets_at}
 use Rattle.painter.specs.Same.{AreSameUpdates}
 use Rattle.painter.specs.Painter.{Painting, IsAsLarge, IsPaintedOver, worked}
+use Rattle.painter.proofs.CopyLaws.{not_late}
 use Rattle.painter.proofs.PaintingLaws.{painted_more, tile_has, whole_meets}
 use Rattle.painter.proofs.PatchLaws.{tile_within}
 
@@ -42,14 +43,14 @@ filled_black w h size old new screen shows x y lx ly =
 
 -- So that is one paint more, wherever it comes in an update.
 pub resized_painted : (old new : Painting) (size : Size) (whole : Rect) → IsScreenSize old.width old.height → (size.width ≤ old.width) × (size.height ≤ old.height) → whole ≡ whole_screen old.width old.height
-    → IsAsLarge old new → new.told ≡ Some size → LooksLike old.width old.height (worked new) (fill whole 0 (worked old))
+    → IsAsLarge old new → new.told ≡ Some size → new.copies ≡ old.copies → new.leads ≡ false → LooksLike old.width old.height (worked new) (fill whole 0 (worked old))
     → ((t : ℕ) → t < tile_count old.width old.height → slice_index new.marks t ≡ (if meets whole (tile_rect old.width old.height t) then 1 else slice_index old.marks t))
     → (start : Canvas) (paints : List Paint) → IsPaintedOver start paints old → IsPaintedOver start (paints ++ Resized size ∷ []) new
-resized_painted old new size whole screen fits is large told shows marks =
+resized_painted old new size whole screen fits is large told kept ends shows marks =
     let w : ℕ = old.width in
     let h : ℕ = old.height in
     let lw : 0 < w = omega (arith, screen.wide.0) in
-    painted_more old new (Resized size) fits large told
+    painted_more old new (Resized size) fits large told kept ends (not_late old.leads (Resized size) refl)
     (filled_black w h size (worked old) (worked new) screen (subst (λ (r : Rect). LooksLike w h (worked new) (fill r 0 (worked old))) is shows))
     (λ t lt.
     marks t lt ∙ ap (λ b. if b then 1 else slice_index old.marks t)
@@ -68,6 +69,8 @@ switched_over screen size a b large stands =
     let h : ℕ = screen.height in
     record {
       shows = λ x y lx ly. stands.shows x y lx ly ∙ (is_black w h size a large x y lx ly ∙ sym (is_black w h size b large x y lx ly));
+      copies = stands.copies;
+      leads = stands.leads;
       touched = stands.touched;
       told = stands.told;
     }
@@ -89,6 +92,8 @@ pub begins_switched : (screen : Painting) (size : Size) (start : Canvas) → IsS
 begins_switched screen size start large stands =
     record {
       shows = λ x y lx ly. stands.shows x y lx ly ∙ sym (is_black screen.width screen.height size start large x y lx ly);
+      copies = stands.copies;
+      leads = stands.leads;
       touched = stands.touched;
       told = stands.told;
     }

@@ -10,12 +10,14 @@ use Rattle.std.proofs.lemmas.Bool.{cases_lt}
 use Rattle.std.proofs.lemmas.List.Elements.{All-filter}
 use Rattle.std.proofs.lemmas.List.FromFn.{get_or-range_with_len, length-range_with_len, sum_by-map-range_with_len_more}
 use Rattle.std.proofs.lemmas.List.Kept.{IsStrictlyIncreasing-filter}
-use Rattle.std.proofs.lemmas.List.Sums.{sum_by-cons}
+use Rattle.std.proofs.lemmas.List.Sums.{sum_by-append, sum_by-cons}
 use Rattle.std.proofs.lemmas.Nat.{div-add-mod', div-mul-add, mod-mul-add}
 use Rattle.raster.specs.declared.rect.Rect.{Rect}
 use Rattle.raster.specs.Screen.{Canvas, part_of, tile_count, tile_rect, tiles_across}
 use Rattle.raster.specs.Update.{Paint, Put}
 use Rattle.raster.proofs.Places.{length_values}
+use Rattle.copy_log.specs.Notes.{paint_of}
+use Rattle.copy_log.specs.declared.copy_rect.CopyRect.{CopyRect}
 use Rattle.painter.specs.Painter.{Painting, colour_count, colours_in, colours_of, is_touched, tile_put, tile_puts, touched_below, worked}
 use Rattle.painter.specs.Patch.{AreTiles, AreTouchedTiles, tile_area, tile_paints}
 use Rattle.raster.specs.declared.tile.TheConstants.{TILE_SIDE}
@@ -184,6 +186,15 @@ puts_few w h c passes lw =
     let none : min w (0 * TILE_SIDE) ≡ 0 = omega arith in
     let total : before w h down 0 ≡ w * h + 0 * min TILE_SIDE (h - down * TILE_SIDE) = ap (λ k. w * k + min w (0 * TILE_SIDE) * min TILE_SIDE (h - down * TILE_SIDE)) all ∙ ap (λ k. w * h + k * min TILE_SIDE (h - down * TILE_SIDE)) none in
     omega (arith, some_le_all colour_count (tile_put w h c) passes (range_with_len 0 n), sum_before w h c n lw, last, total)
+
+copies_colours : (cs : List CopyRect) → colours_of (map paint_of cs) ≡ 0
+copies_colours [] = refl
+copies_colours (c ∷ cs) = sum_by-cons colour_count (paint_of c) (map paint_of cs) ∙ (zero-add (colours_of (map paint_of cs)) ∙ copies_colours cs)
+
+-- Copies in front of them have none.
+pub patch_few : (w h : ℕ) (c : Canvas) (passes : ℕ → Bool) (cs : List CopyRect) → 0 < w → colours_of (map paint_of cs ++ tile_puts w h c passes) ≤ w * h
+patch_few w h c passes cs lw =
+    omega (arith, sum_by-append colour_count (map paint_of cs) (tile_puts w h c passes), copies_colours cs, puts_few w h c passes lw)
 
 -- ---- all of a patch
 

@@ -1,16 +1,17 @@
 -- The touched tiles as they look give the same screen as the update, and touch the same tiles. So a patch may be made
 -- of them.
-use Rattle.std.proofs.Common.{◌≡◌, ℕ, zero, suc, ◌+◌, ◌*◌, ◌-◌, ◌/◌, ◌%◌, ◌<◌, Bool, true, false, List, [], ◌∷◌, ◌++◌, map, get_or, inl, inr, Option, Some, None, refl, ap, sym, ◌∙◌, arith, zero-add}
+use Rattle.std.proofs.Common.{◌≡◌, ℕ, zero, suc, ◌+◌, ◌*◌, ◌-◌, ◌/◌, ◌%◌, ◌<◌, Bool, true, false, List, [], ◌∷◌, ◌++◌, map, All, get_or, inl, inr, Option, Some, None, refl, ap, sym, ◌∙◌, arith, zero-add}
 use Rattle.std.specs.Prelude.{◌||◌, ◌&&◌, filter, if◌then◌else◌, max, min}
 use Rattle.std.specs.List.{list_any, range_with_len}
 use Rattle.std.proofs.lemmas.Bool.{cases_Bool, or_cases}
 use Rattle.std.proofs.lemmas.Bool.Decides.{nat_tests}
 use Rattle.std.proofs.lemmas.List.{append-nil}
 use Rattle.std.proofs.lemmas.List.Elements.{filter-append}
-use Rattle.std.proofs.lemmas.List.Folds.{list_any_at, list_any_none}
+use Rattle.std.proofs.lemmas.List.Folds.{list_any-append, list_any_at, list_any_none}
 use Rattle.std.proofs.lemmas.List.FromFn.{get_or-range_with_len, length-range_with_len}
 use Rattle.std.proofs.lemmas.Nat.{div-add-mod'}
 use Rattle.raster.specs.declared.rect.Rect.{Rect}
+use Rattle.raster.specs.Painted.{Fits}
 use Rattle.raster.specs.Screen.{Canvas, LooksLike, holds, meets, part_of, tile_count, tile_rect, tiles_across, value_at, values_of}
 use Rattle.raster.specs.declared.size.Size.{Size}
 use Rattle.raster.specs.Update.{Paint, Paints, after_paint, after_paints, painted, size_told}
@@ -18,8 +19,10 @@ use Rattle.raster.proofs.Places.{Has, has_holds, holds_has, meets_at, tile_of, t
 use Rattle.tiles.proofs.Touching.{same_after_paints}
 use Rattle.tiles.specs.Touched.{bell_or_text, touches}
 use Rattle.painter.specs.Same.{AreSameFrom}
+use Rattle.painter.specs.Copies.{leading_copies, other_paints}
 use Rattle.painter.specs.Painter.{Painting, IsPaintedOver, is_touched, tile_put, tile_puts, touched_below, worked}
-use Rattle.painter.proofs.PatchLaws.{list_any-map}
+use Rattle.painter.proofs.CopyLaws.{LeadNone, after_both, all_paints, lead_again}
+use Rattle.painter.proofs.PatchLaws.{list_any-map, looks_after_all}
 use Rattle.painter.proofs.SameLaws.{same_one}
 use Rattle.painter.proofs.PaintingLaws.{tile_has}
 
@@ -162,13 +165,58 @@ same_kind : (size : Option Size) (ps qs : List Paint) → bell_or_text (Paints s
 same_kind None ps qs = refl
 same_kind (Some size) ps qs = refl
 
--- The update and the patch are the same update.
-pub patch_is_same : (screen : Painting) (start before : Canvas) (ps : List Paint) → 0 < screen.width → LooksLike screen.width screen.height start before → IsPaintedOver start ps screen
-    → AreSameFrom screen.width screen.height start before (Paints (size_told ps) ps ∷ []) (Paints screen.told (tile_puts screen.width screen.height (worked screen) (is_touched screen)) ∷ [])
-patch_is_same screen start before ps lw alike stands =
+-- No copy leads tiles that are put.
+puts_lead_none : (w h : ℕ) (c : Canvas) (ts : List ℕ) → LeadNone (map (tile_put w h c) ts)
+puts_lead_none w h c [] zero = refl
+puts_lead_none w h c [] (suc n) = refl
+puts_lead_none w h c (t ∷ ts) zero = refl
+puts_lead_none w h c (t ∷ ts) (suc n) = refl
+
+-- The copies that lead an update lead its patch.
+pub patch_leads : (screen : Painting) (ps : List Paint) → screen.copies ≡ leading_copies ps → leading_copies (screen.copies ++ tile_puts screen.width screen.height (worked screen) (is_touched screen)) ≡ leading_copies ps
+patch_leads screen ps are =
     let w : ℕ = screen.width in
     let h : ℕ = screen.height in
-    let shows : LooksLike w h (after_paints start ps) (after_paints before (tile_puts w h (worked screen) (is_touched screen))) = same_screen w h start before (worked screen) ps (is_touched screen) alike stands.shows stands.touched in
-    same_one w h start before (Paints (size_told ps) ps) (Paints screen.told (tile_puts w h (worked screen) (is_touched screen))) alike shows
-    (λ t lt. sym (stands.touched t lt) ∙ sym (same_tiles w h (worked screen) (is_touched screen) t lw lt))
-    (ap (λ (size : Option Size). bell_or_text (Paints size ps)) (sym stands.told) ∙ same_kind screen.told ps (tile_puts w h (worked screen) (is_touched screen)))
+    let puts : List Paint = tile_puts w h (worked screen) (is_touched screen) in
+    ap (λ (cs : List Paint). leading_copies (cs ++ puts)) are
+    ∙ lead_again ps puts (puts_lead_none w h (worked screen) (filter (is_touched screen) (range_with_len 0 (tile_count w h))))
+
+-- The update and the patch are the same update.
+pub patch_is_same : (screen : Painting) (start before : Canvas) (ps : List Paint) → 0 < screen.width → All (Fits screen.width screen.height) screen.copies → LooksLike screen.width screen.height start before → IsPaintedOver start ps screen
+    → AreSameFrom screen.width screen.height start before (Paints (size_told ps) ps ∷ []) (Paints screen.told (screen.copies ++ tile_puts screen.width screen.height (worked screen) (is_touched screen)) ∷ [])
+patch_is_same screen start before ps lw fit alike stands =
+    same_one w h start before (Paints (size_told ps) ps) (Paints screen.told (cs ++ puts)) alike shows touched
+    (ap (λ (size : Option Size). bell_or_text (Paints size ps)) (sym stands.told) ∙ same_kind screen.told ps (cs ++ puts))
+  where
+    w : ℕ
+    w = screen.width
+
+    h : ℕ
+    h = screen.height
+
+    cs : List Paint
+    cs = screen.copies
+
+    puts : List Paint
+    puts = tile_puts w h (worked screen) (is_touched screen)
+
+    all : cs ++ other_paints ps ≡ ps
+    all = ap (λ (ds : List Paint). ds ++ other_paints ps) stands.copies ∙ all_paints ps
+
+    split : after_paints start ps ≡ after_paints (after_paints start cs) (other_paints ps)
+    split = ap (after_paints start) (sym all) ∙ after_both start cs (other_paints ps)
+
+    behind : LooksLike w h (after_paints (after_paints start cs) (other_paints ps)) (after_paints (after_paints before cs) puts)
+    behind =
+        same_screen w h (after_paints start cs) (after_paints before cs) (worked screen) (other_paints ps) (is_touched screen) (looks_after_all w h start before cs fit alike)
+        (λ x y lx ly. stands.shows x y lx ly ∙ ap (λ (c : Canvas). c x y) split) stands.touched
+
+    shows : LooksLike w h (after_paints start ps) (after_paints before (cs ++ puts))
+    shows x y lx ly = ap (λ (c : Canvas). c x y) split ∙ (behind x y lx ly ∙ ap (λ (c : Canvas). c x y) (sym (after_both before cs puts)))
+
+    touched : (t : ℕ) → t < tile_count w h → touches (tile_rect w h t) (Paints (size_told ps) ps) ≡ touches (tile_rect w h t) (Paints screen.told (cs ++ puts))
+    touched t lt =
+        let met : Paint → Bool = λ p. meets (painted p) (tile_rect w h t) in
+        sym (ap (list_any met) all)
+        ∙ (list_any-append met cs (other_paints ps)
+        ∙ (ap (λ b. list_any met cs || b) (sym (stands.touched t lt) ∙ sym (same_tiles w h (worked screen) (is_touched screen) t lw lt)) ∙ sym (list_any-append met cs puts)))

@@ -6,6 +6,7 @@ use Rattle.raster.specs.Screen.{Canvas, LooksLike, opening, tile_rect, value_at}
 use Rattle.raster.specs.declared.size.Size.{Size}
 use Rattle.raster.specs.Update.{Update, Paints, Bell, Cut, NumberedText, after_paints, bells, last_text, last_text_from, paints_of, screen, size_after_update, size_after_updates}
 use Rattle.tiles.proofs.Touching.{after_updates-more}
+use Rattle.copy_log.specs.Notes.{Log, LogStands}
 use Rattle.painter.specs.Board.{BoardStands, Posted}
 pub use Rattle.painter.specs.Kept.{newer}
 use Rattle.painter.specs.Patch.{ShowsOver, SizedUpdate, is_bell, text_of}
@@ -50,14 +51,14 @@ counted true = refl
 counted false = refl
 
 -- A board that stands for some updates does so for one more, where that was painted on it, touched its tiles, was
--- counted, and kept as a text and as a size.
-pub stands-push : (board : Posted) (patch : SizedUpdate) (w h n rung count : ℕ) (old new : List ℕ) (grid touched : Stamps) (last : Option NumberedText) (text : Option (List ℕ)) (told larger : Option Size) (us : List Update)
-    → record { width = w; height = h; number = n; size = told; colours = old; grid = grid; bells = rung; text = last } ≡ board → (patch.width ≡ board.width) × (patch.height ≡ board.height) → ShowsOver patch old new
-    → IsTouched (λ t. touches (tile_rect grid.width grid.height t) patch.update) (n + 1) grid touched → count ≡ from_bool (is_bell patch.update) → text ≡ text_of patch.update → larger ≡ size_after_update told patch.update → BoardStands board us
-    → BoardStands (record { width = w; height = h; number = n + 1; size = larger; colours = new; grid = touched; bells = rung + count; text = newer last (n + 1) text }) (us ++ patch.update ∷ [])
-stands-push board patch w h n rung count old new grid touched last text told larger us is size shows touches is_count is_text is_size stands =
+-- counted, kept as a text and as a size, and noted in the log.
+pub stands-push : (board : Posted) (patch : SizedUpdate) (w h n rung count : ℕ) (old new : List ℕ) (grid touched : Stamps) (last : Option NumberedText) (text : Option (List ℕ)) (told larger : Option Size) (log noted : Log) (us : List Update)
+    → record { width = w; height = h; number = n; size = told; colours = old; grid = grid; bells = rung; text = last; log = log } ≡ board → (patch.width ≡ board.width) × (patch.height ≡ board.height) → ShowsOver patch old new
+    → IsTouched (λ t. touches (tile_rect grid.width grid.height t) patch.update) (n + 1) grid touched → count ≡ from_bool (is_bell patch.update) → text ≡ text_of patch.update → larger ≡ size_after_update told patch.update → (LogStands log us → LogStands noted (us ++ patch.update ∷ [])) → BoardStands board us
+    → BoardStands (record { width = w; height = h; number = n + 1; size = larger; colours = new; grid = touched; bells = rung + count; text = newer last (n + 1) text; log = noted }) (us ++ patch.update ∷ [])
+stands-push board patch w h n rung count old new grid touched last text told larger log noted us is size shows touches is_count is_text is_size notes stands =
     let u : Update = patch.update in
-    let stood : BoardStands (record { width = w; height = h; number = n; size = told; colours = old; grid = grid; bells = rung; text = last }) us = subst (λ (b : Posted). BoardStands b us) (sym is) stands in
+    let stood : BoardStands (record { width = w; height = h; number = n; size = told; colours = old; grid = grid; bells = rung; text = last; log = log }) us = subst (λ (b : Posted). BoardStands b us) (sym is) stands in
     let wide : patch.width ≡ w = size.0 ∙ ap (λ (b : Posted). b.width) (sym is) in
     let high : patch.height ≡ h = size.1 ∙ ap (λ (b : Posted). b.height) (sym is) in
     let painted : LooksLike w h (value_at w old) (screen us) → LooksLike w h (value_at w new) (after_paints (screen us) (paints_of u)) = rw (← wide, ← high) (shows (screen us)) in
@@ -70,11 +71,12 @@ stands-push board patch w h n rung count old new grid touched last text told lar
       grid = stands_next grid touched us u (n + 1) (omega (arith, stood.number)) stood.grid touches;
       bells = ap (λ k. k + count) stood.bells ∙ (ap (λ k. bells us + k) (is_count ∙ counted (is_bell u)) ∙ sym (bells-push us u));
       text = ap (λ (t : Option NumberedText). newer t (n + 1) text) stood.text ∙ (ap (λ k. newer (last_text us) k text) next ∙ (ap (λ (t : Option (List ℕ)). newer (last_text us) (1 + length us) t) is_text ∙ sym (last_text-push us u)));
+      log = notes stood.log;
     }
 
 -- A board is the view of the same updates where its number, size, colours, Bells and text are the same.
 pub stands_as : (board : Posted) (us : List Update) (number rung : ℕ) (size : Option Size) (colours : List ℕ) (text : Option NumberedText) → number ≡ board.number → size ≡ board.size → colours ≡ board.colours → rung ≡ board.bells
-    → text ≡ board.text → BoardStands board us → BoardStands (record { width = board.width; height = board.height; number = number; size = size; colours = colours; grid = board.grid; bells = rung; text = text }) us
+    → text ≡ board.text → BoardStands board us → BoardStands (record { width = board.width; height = board.height; number = number; size = size; colours = colours; grid = board.grid; bells = rung; text = text; log = board.log }) us
 stands_as board us number rung size colours text same_number same_size same_colours same_bells same_text =
     subst (λ (b : Posted). BoardStands b us)
-    (λ i. record { width = board.width; height = board.height; number = sym same_number i; size = sym same_size i; colours = sym same_colours i; grid = board.grid; bells = sym same_bells i; text = sym same_text i })
+    (λ i. record { width = board.width; height = board.height; number = sym same_number i; size = sym same_size i; colours = sym same_colours i; grid = board.grid; bells = sym same_bells i; text = sym same_text i; log = board.log })

@@ -1,3 +1,4 @@
+pub mod Copies
 pub mod Patch
 pub mod Kept
 pub mod Painter

@@ -1,10 +1,12 @@
 -- What one whole message of the host changes on a screen.
-use Rattle.std.specs.Prelude.{◌≡◌, ℕ, ◌*◌, ◌<◌, ◌≤◌, Bool, true, false, List, [], ◌∷◌, length, take, drop, All, Option, Some, None}
+use Rattle.std.specs.Prelude.{◌≡◌, ℕ, ◌*◌, ◌<◌, ◌≤◌, Bool, true, false, List, [], ◌∷◌, ◌++◌, length, take, drop, All, Option, Some, None}
 use Rattle.std.specs.List.{sum_by}
 use Rattle.std.specs.List.Sorted.{IsStrictlyIncreasing}
 use Rattle.raster.specs.declared.size.Size.{Size}
 use Rattle.raster.specs.Screen.{Canvas, LooksLike, part_of, tile_count, tile_rect, value_at}
 use Rattle.raster.specs.Update.{Paint, Put, Update, Paints, Bell, Cut, after_paints, paints_of}
+use Rattle.copy_log.specs.Notes.{paints}
+use Rattle.painter.specs.Copies.{AreCopies}
 use Rattle.painter.specs.declared.patch.Change.{Change}
 use Rattle.painter.specs.declared.patch.Change.TheVariants as code
 use Rattle.fault.specs.declared.limits.TheConstants.{LONGEST_TEXT}
@@ -38,7 +40,7 @@ pub record AreTouchedTiles (w h : ℕ) (numbers colours : List ℕ) : Type 0 whe
 
 -- The update that a Change in the code stands for.
 abbrev pub update_of : ℕ → ℕ → Change → Update
-update_of w h (code.Tiles size numbers colours) = Paints size (tile_paints w h numbers.items colours.items)
+update_of w h (code.Tiles size copies numbers colours) = Paints size (paints copies.items ++ tile_paints w h numbers.items colours.items)
 update_of w h code.Bell = Bell
 update_of w h (code.Text text) = Cut text.items
 
@@ -47,10 +49,10 @@ abbrev pub IsWithinScreen : ℕ → ℕ → Option Size → Type 0
 IsWithinScreen w h None = Unit {0}
 IsWithinScreen w h (Some size) = (size.width ≤ w) × (size.height ≤ h)
 
--- The tiles of a change are tiles of a screen of w by h, each at most once, and its new size is at most as large; its
--- text has at most 65,536 bytes.
+-- The tiles of a change are tiles of a screen of w by h, each at most once, its copies and their sources lie on that
+-- screen, and its new size is at most as large; its text has at most 65,536 bytes.
 abbrev pub IsFor : ℕ → ℕ → Change → Type 0
-IsFor w h (code.Tiles size numbers colours) = IsWithinScreen w h size × AreTouchedTiles w h numbers.items colours.items
+IsFor w h (code.Tiles size copies numbers colours) = IsWithinScreen w h size × AreCopies w h copies.items × AreTouchedTiles w h numbers.items colours.items
 IsFor w h code.Bell = Unit {0}
 IsFor w h (code.Text text) = length text.items ≤ LONGEST_TEXT
 

@@ -11,7 +11,7 @@ pub record RoomSize : Type 0 where
 
 -- What stands for the board where there is neither a shared one nor a copy, which IsShown rules out.
 abbrev nothing : Posted
-nothing = record { width = 0; height = 0; number = 0; size = None; colours = []; grid = record { width = 0; height = 0; stamps = [] }; bells = 0; text = None }
+nothing = record { width = 0; height = 0; number = 0; size = None; colours = []; grid = record { width = 0; height = 0; stamps = [] }; bells = 0; text = None; log = record { width = 0; height = 0; number = 0; notes = [] } }
 
 -- The board that is shown: the shared one, or else the copy.
 abbrev pub board_of : {A : Type 0} → Option (Arc Posted A) → Option Posted → Posted

@@ -1,17 +1,19 @@
 //! The forms of a board's tiles, which are kept while their colours stay.
 
-ghost use Rattle.std.specs.Prelude.{◌≡◌, ◌≢◌, ℕ, ◌*◌, ◌<◌, ◌≤◌, [], false, length, slice_index_or, None, Some, IfOk, IfErr, IfNone, IfSome, IsTrue};
+ghost use Rattle.std.specs.Prelude.{◌≡◌, ◌≢◌, ℕ, ◌*◌, ◌<◌, ◌≤◌, [], false, length, slice_index, slice_index_or, None, Some, IfOk, IfErr, IfNone, IfSome, IsTrue};
 ghost use Rattle.fault.specs.declared.kinds.Fault.TheVariants.{Memory};
 ghost use Rattle.hextile_codec.specs.Kept.{AreFormsOf, FormStands};
-ghost use Rattle.painter.specs.Forms.{AreFormsBut, TookForms};
+ghost use Rattle.painter.specs.Forms.{AreFormsBut, AreUncopiedForms, TookForms};
 ghost use Rattle.painter.specs.Patch.{AreTiles, IsPainted, ShowsTiles};
-ghost use Rattle.raster.specs.Screen.{Canvas, part_of, tile_count, tile_rect, value_at};
+ghost use Rattle.raster.specs.Screen.{Canvas, meets, part_of, tile_count, tile_rect, value_at};
 ghost use Rattle.raster.specs.Size.{IsScreenSize};
 ghost use Rattle.raster.specs.declared.tile.TheConstants.{TILE_SIDE};
+ghost use Rattle.std.specs.List.{list_any};
 ghost use Rattle.tiles.specs.Grid.{is_lacked};
 ghost use Rattle.tiles.specs.Touched.{touches};
 
 use crate::patch::Patch;
+use copy_log::CopyRect;
 use fault::Fault;
 use hextile_codec::{TileForm, TileRoom, form_of_tile};
 use raster::{Rect, tile_count, tile_rect};
@@ -24,6 +26,13 @@ pub(crate) struct Forms {
     pub list: Vec<Option<TileForm>>,
 }
 
+/// Whether one of the copies meets a rectangle.
+fn is_met(copies: &[CopyRect], area: &Rect) -> bool
+    ensures { result ≡ list_any (λ c. meets c.area area.now) copies.now }
+{
+    copies.iter().any(|copy| copy.area.meets(area))
+}
+
 /// The form of a tile of `w` by `h`, whose colours stand row after row; `None` as in `form_of_tile`.
 fn form_of_colours(colours: &[u32], w: u64, h: u64, room: &mut TileRoom) -> Option<TileForm>
     requires count { length colours.now ≡ w * h }
@@ -32,6 +41,38 @@ fn form_of_colours(colours: &[u32], w: u64, h: u64, room: &mut TileRoom) -> Opti
     ensures { IfSome result (λ form. FormStands form w h (value_at w colours.now)) }
 {
     form_of_tile(colours, w as usize, &Rect { x: 0, y: 0, w, h }, room)
+}
+
+/// The form of a tile of a screen of `width` by `height`, whose colours stand row after row, if it `keeps` forms;
+/// `None` as in `form_of_tile`.
+fn form_on_screen(
+    colours: &[u32],
+    width: u64,
+    height: u64,
+    t: u64,
+    keeps: bool,
+    room: &mut TileRoom,
+) -> Option<TileForm>
+    requires size { IsScreenSize width height }
+    requires rows { length colours.now ≡ width * height }
+    requires there { t < tile_count width height }
+    ensures { IfSome result (λ form.
+        FormStands form (tile_rect width height t).w (tile_rect width height t).h
+        (part_of (tile_rect width height t) (value_at width colours.now))) }
+{
+    if keeps {
+        let area = tile_rect(width, height, t);
+        form_of_tile(colours, width as usize, &area, room)
+    } else {
+        None
+    }
+}
+
+/// Whether `t` is the number at this place.
+fn is_next(numbers: &[u64], at: usize, t: u64) -> bool
+    ensures { IsTrue result → (at < length numbers.now) × (slice_index numbers.now at ≡ t) }
+{
+    at < numbers.len() && numbers[at] == t
 }
 
 impl Forms {
@@ -164,11 +205,45 @@ impl Forms {
         }
     }
 
+    /// Renews the forms of the tiles that these copies meet, but for those of these rising numbers, by the screen's
+    /// colours after the copies. If it `keeps` forms, they are made of these; otherwise they are forgotten.
+    fn renew_copied(
+        &mut self,
+        width: u64,
+        height: u64,
+        copies: &[CopyRect],
+        numbers: &[u64],
+        colours: &[u32],
+        keeps: bool,
+    )
+        requires size { IsScreenSize width height }
+        requires rows { length colours.now ≡ width * height }
+        ensures { AreUncopiedForms copies.now numbers.now width height
+            (value_at width colours.now) self.old.list.items
+            → AreFormsBut numbers.now width height
+            (value_at width colours.now) self.new.list.items }
+    {
+        if copies.is_empty() {
+            return;
+        }
+        let mut room = TileRoom::new();
+        let mut next = 0;
+        for t in 0..tile_count(width, height) {
+            if is_next(numbers, next, t) {
+                next += 1;
+            } else if is_met(copies, &tile_rect(width, height, t)) {
+                let form = form_on_screen(colours, width, height, t, keeps, &mut room);
+                self.put(t as usize, form);
+            }
+        }
+    }
+
     /// Renews the forms of a patch's tiles after it was painted, which left the screen these colours. Forms are kept as
-    /// in `Board::apply`. They are made of the patch's own colours, which lie together: a tile's rows lie far apart on
-    /// a large screen. So only the contract reads the screen's.
+    /// in `Board::apply`. Those of the tiles that it brings are made of its own colours, which lie together: a tile's
+    /// rows lie far apart on a large screen. Those of other tiles that its copies meet are made of the screen's.
     pub fn renew(&mut self, patch: &Patch, colours: &[u32], keeps: bool)
         requires size { IsScreenSize patch.now.width patch.now.height }
+        requires rows { length colours.now ≡ patch.now.width * patch.now.height }
         requires shown { IsPainted patch.now colours.now }
         requires others { (t : ℕ) → t < length self.old.list.items
             → t < tile_count patch.now.width patch.now.height
@@ -187,6 +262,7 @@ impl Forms {
         let (width, height) = patch.size();
         let (numbers, tiles) = patch.tiles();
         self.begin(width, height);
+        self.renew_copied(width, height, patch.copies(), numbers, colours, keeps);
         self.renew_tiles(width, height, numbers, tiles, keeps);
     }
 

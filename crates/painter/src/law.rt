@@ -6,8 +6,8 @@ ghost use Rattle.raster.specs.Screen.{Canvas, LooksLike, opening, tile_count, ti
 ghost use Rattle.raster.specs.Update.{Update, after_updates, bells, last_size, last_text, screen};
 ghost use Rattle.tiles.specs.Touched.{last_touch};
 
-/// Two lists of updates that come to the same from the opening on show the same screen, the same count of Bells, the same
-/// last text and the same last size, and in both the same update is the last to touch each tile.
+/// Two lists of updates that come to the same from the opening on show the same screen, the same count of Bells, the
+/// same last text and the same last size, and in both the same update is the last to touch each tile.
 pub fn same_updates_show_the_same()
     ensures screen { (w h : ℕ) (us vs : List Update) → AreSameUpdates w h opening us vs
         → LooksLike w h (screen us) (screen vs) }

@@ -9,6 +9,7 @@ mod area_forms;
 mod area_source;
 mod board;
 mod canvas;
+mod colours;
 mod copying;
 mod encoded;
 mod forms;

@@ -1,6 +1,7 @@
 //! A screen that an update is painted on as it comes, and the patch of the tiles that it touched (RFC 6143, 7.6.1).
 
-ghost use Rattle.std.specs.Prelude.{◌≡◌, ℕ, ◌*◌, ◌<◌, ◌≤◌, ◌^◌, map, List, [], ◌∷◌, ◌++◌, length, slice_index, IfOk, IfErr, OnOk};
+ghost use Rattle.std.specs.Prelude.{◌≡◌, ℕ, ◌*◌, ◌<◌, ◌≤◌, ◌^◌, List, [], ◌∷◌, ◌++◌, length, slice_index, IfOk, IfErr, OnOk};
+ghost use Rattle.painter.specs.Copies.{leading_copies};
 ghost use Rattle.painter.specs.Patch.{tile_area};
 ghost use Rattle.painter.specs.Same.{AreSameUpdates};
 ghost use Rattle.painter.specs.Drawing.{IsPaintedAround, drawn};
@@ -15,6 +16,7 @@ ghost use Rattle.raster.specs.Update as update;
 ghost use Rattle.std.specs.List.{flat_map, sum_by};
 
 use crate::patch::Patch;
+use copy_log::{CopyRect, MOST_COPIES};
 use fault::Fault;
 use raster::{Paint, Raster, Rect, Size, tile_count, tile_rect};
 use std::alloc::Global;
@@ -26,7 +28,8 @@ const TOUCHED: u64 = 1;
 
 const UNTOUCHED: u64 = 0;
 
-/// The host's screen as all bytes so far left it, and the tiles that the update which is being read has touched.
+/// The host's screen as all bytes so far left it, the copies that the update which is being read began with, and the
+/// tiles that its other paints have touched.
 #[derive(Drop)]
 pub struct Painter {
     pub(crate) raster: Raster,
@@ -35,15 +38,22 @@ pub struct Painter {
     pub(crate) area: Rect,
     /// The new size that the update has told.
     told: Option<Size>,
+    /// The copies that the update began with. The room for them is kept.
+    copies: Vec<CopyRect>,
+    /// Whether one copy more would be one of these: no other paint came, and there are fewer than a patch keeps.
+    leads: bool,
     alloc: Global,
 }
 
 impl Model for Painter {
-    ghost use Rattle.std.specs.Prelude.{◌≡◌};
+    ghost use Rattle.std.specs.Prelude.{◌≡◌, ◌<◌, ◌≤◌, true, length, vec_capacity};
+    ghost use Rattle.copy_log.specs.Notes.{paints};
     ghost use Rattle.raster.specs.Screen.{IsWithin};
     ghost use Rattle.raster.specs.Size.{IsScreenSize};
+    ghost use Rattle.painter.specs.Copies.{AreCopies};
     ghost use Rattle.painter.specs.Painter.{Painting};
     ghost use Rattle.painter.specs.Patch.{IsWithinScreen};
+    ghost use Rattle.copy_log.specs.declared.note.TheConstants.{MOST_COPIES};
 
     ghost Value = { Painting };
 
@@ -51,6 +61,8 @@ impl Model for Painter {
       width = s.raster.width;
       height = s.raster.height;
       colours = s.raster.colours;
+      copies = paints s.copies.items;
+      leads = s.leads;
       marks = s.touched.stamps;
       area = s.area;
       told = s.told;
@@ -59,7 +71,10 @@ impl Model for Painter {
     ghost invariant = { λ s. IsScreenSize s.raster.width s.raster.height
         × (s.touched.width ≡ s.raster.width) × (s.touched.height ≡ s.raster.height)
         × IsWithin s.area s.raster.width s.raster.height
-        × IsWithinScreen s.raster.width s.raster.height s.told };
+        × IsWithinScreen s.raster.width s.raster.height s.told
+        × AreCopies s.raster.width s.raster.height s.copies.items
+        × (s.leads ≡ true → length s.copies.items < MOST_COPIES)
+        × (MOST_COPIES ≤ vec_capacity s.copies) };
 }
 
 /// Adds the colours of a rectangle of a raster, row after row. It fails where memory is refused (`Memory`).
@@ -97,6 +112,8 @@ impl Painter {
                 h: 0,
             },
             told: None,
+            copies: Vec::with_capacity(alloc, MOST_COPIES)?,
+            leads: true,
             alloc,
         })
     }
@@ -147,6 +164,7 @@ impl Painter {
     {
         self.raster.put(area, colours);
         self.touched.touch(&area, TOUCHED);
+        self.leads = false;
     }
 
     /// Takes a new size of the host's own screen (RFC 6143, 7.8.2): the whole screen turns black, and stays as large as
@@ -166,11 +184,13 @@ impl Painter {
         };
         self.raster.fill(whole, 0);
         self.touched.touch(&whole, TOUCHED);
+        self.leads = false;
         self.told = Some(size);
     }
 
     /// Copies a rectangle from another part of the screen, as it was before the call: `x`, `y` is that part's top left
-    /// (RFC 6143, 7.7.2). It always succeeds, and takes no memory.
+    /// (RFC 6143, 7.7.2). A copy that the update begins with is noted, and touches no tile. It always succeeds, and
+    /// takes no memory.
     pub fn copy(&mut self, area: Rect, x: u64, y: u64)
         requires within { IsWithin area self.old.width self.old.height }
         requires source { IsWithin (record { x = x; y = y; w = area.w; h = area.h })
@@ -181,7 +201,13 @@ impl Painter {
             → IsPaintedOver start (paints ++ update.Copy area x y ∷ []) self.new }
     {
         self.raster.copy(area, x, y);
-        self.touched.touch(&area, TOUCHED);
+        if self.leads {
+            // Not refused: there is room.
+            let _ = self.copies.push(CopyRect { area, x, y });
+            self.leads = self.copies.len() < MOST_COPIES;
+        } else {
+            self.touched.touch(&area, TOUCHED);
+        }
     }
 
     /// Paints a paint. It always succeeds, and takes no memory.
@@ -198,7 +224,8 @@ impl Painter {
         }
     }
 
-    /// Begins to draw on a rectangle. Its tiles are touched only when the drawing ends.
+    /// Begins to draw on a rectangle. Its tiles are touched only when the drawing ends, and only then do no more copies
+    /// lead the update.
     pub fn draw_on(&mut self, area: Rect)
         requires { IsWithin area self.old.width self.old.height }
         ensures { self.new ≡ record self.old { area = area } }
@@ -216,9 +243,10 @@ impl Painter {
             → IsPaintedOver start (paints ++ update.Put self.old.area colours ∷ []) self.new }
     {
         self.touched.touch(&self.area, TOUCHED);
+        self.leads = false;
     }
 
-    /// Whether the update that is being read has touched tile `t`.
+    /// Whether a paint other than the leading copies has touched tile `t`.
     fn is_touched(&self, t: u64) -> bool
         requires { t < tile_count self.now.width self.now.height }
         ensures { result ≡ is_touched self.now t }
@@ -269,20 +297,24 @@ impl Painter {
         Ok((numbers, colours))
     }
 
-    /// At the end of a FramebufferUpdate (RFC 6143, section 7.6.1): the tiles that it touched, each once, in rising
-    /// order, with the colours of the whole tile. Then no tile is touched: the next update begins. It fails where
-    /// memory is refused (`Memory`).
+    /// At the end of a FramebufferUpdate (RFC 6143, section 7.6.1): the copies that it began with, and the tiles that
+    /// its other paints touched, each once, in rising order, with the colours of the whole tile. Then no copy is noted
+    /// and no tile is touched: the next update begins. It fails where memory is refused (`Memory`).
     pub fn patch(&mut self) -> Result<Patch, Fault>
         ensures patch { IfOk result (λ patch. patch ≡ record {
           width = self.old.width;
           height = self.old.height;
           update = update.Paints self.old.told
-              (tile_puts self.old.width self.old.height (worked self.old) (is_touched self.old));
+              (self.old.copies ++ tile_puts self.old.width self.old.height
+              (worked self.old) (is_touched self.old));
         }) }
         ensures same { IfOk result (λ patch.
             (start : Canvas) (paints : List update.Paint) → IsPaintedOver start paints self.old
             → AreSameUpdates self.old.width self.old.height start
             (update.of_paints paints ∷ []) (patch.update ∷ [])) }
+        ensures copies { IfOk result (λ patch.
+            (start : Canvas) (paints : List update.Paint) → IsPaintedOver start paints self.old
+            → leading_copies (update.paints_of patch.update) ≡ leading_copies paints) }
         ensures most { IfOk result (λ patch.
             colours_of (update.paints_of patch.update) ≤ self.old.width * self.old.height) }
         ensures size { IsAsLarge self.old self.new }
@@ -294,6 +326,7 @@ impl Painter {
     {
         let (width, height) = self.size();
         let (numbers, colours) = self.touched_tiles()?;
+        let copies = self.copies.as_slice().to_vec(self.alloc)?;
         let all = Rect {
             x: 0,
             y: 0,
@@ -301,8 +334,10 @@ impl Painter {
             h: height,
         };
         self.touched.touch(&all, UNTOUCHED);
+        self.copies.clear();
+        self.leads = true;
         let size = self.told.take();
-        Ok(Patch::of_tiles(width, height, size, numbers, colours))
+        Ok(Patch::of_tiles(width, height, size, copies, numbers, colours))
     }
 
     /// Where the host has ended and another begins, whose screen is as large as this one: the screen turns black, what

@@ -6,6 +6,7 @@ ghost use Rattle.raster.specs.Size.{IsScreenSize};
 
 use crate::board::Board;
 use crate::text::LastText;
+use copy_log::CopyLog;
 use fault::Fault;
 use std::alloc::Global;
 use std::marker::Model;
@@ -20,6 +21,7 @@ pub(crate) struct Room {
     colours: Vec<u32>,
     grid: Grid,
     text: LastText,
+    log: CopyLog,
 }
 
 impl Model for Room {
@@ -33,7 +35,8 @@ impl Model for Room {
 
     ghost invariant = { λ r. IsScreenSize r.width r.height
         × (r.colours.items ≡ []) × (r.width * r.height ≤ vec_capacity r.colours)
-        × (r.grid.width ≡ r.width) × (r.grid.height ≡ r.height) };
+        × (r.grid.width ≡ r.width) × (r.grid.height ≡ r.height)
+        × (r.log.width ≡ r.width) × (r.log.height ≡ r.height) };
 }
 
 impl Room {
@@ -46,6 +49,7 @@ impl Room {
         let text = LastText::new(alloc)?;
         let colours = Vec::with_capacity(alloc, (width * height) as usize)?;
         let grid = Grid::new(alloc, width, height)?;
+        let log = CopyLog::new(alloc, width, height)?;
         Ok(Room {
             alloc,
             width,
@@ -53,6 +57,7 @@ impl Room {
             colours,
             grid,
             text,
+            log,
         })
     }
 
@@ -68,7 +73,8 @@ impl Room {
             colours,
             grid,
             text,
+            log,
         } = self;
-        board.copy_to(alloc, colours, grid, text)
+        board.copy_to(alloc, colours, grid, text, log)
     }
 }
