@@ -1,6 +1,6 @@
 -- What follows once all bytes of a part have come. The decoder then stands at the part after it, or at a fault.
-use Rattle.std.proofs.Common.{◌≡◌, ℕ, ◌*◌, ◌<◌, ◌≤◌, Bool, true, false, List, [], length, take, inr, sym, ap, subst, ◌∙◌}
-use Rattle.std.specs.Prelude.{if◌then◌else◌, nat_le}
+use Rattle.std.proofs.Common.{◌≡◌, ℕ, ◌*◌, ◌<◌, ◌≤◌, Bool, true, false, List, [], ◌∷◌, length, take, inr, refl, arith, sym, ap, subst, ◌∙◌}
+use Rattle.std.specs.Prelude.{if◌then◌else◌, nat_le, slice_index}
 use Rattle.std.proofs.lemmas.Bool.{lt-leb, le-leb}
 use Rattle.pixel_format.specs.PixelFormat.{host_format}
 use Rattle.byte_reading.specs.Reading.{Reading, Done, Faulty, ◌>>=◌, after, bytes, padding, u32, Spells}
@@ -10,7 +10,7 @@ use Rattle.raster.specs.Update.{Paint}
 use Rattle.painter.specs.Painter.{Painting}
 use Rattle.rfb_wire.specs.ClientMessage.{longest_text}
 use Rattle.rfb_wire.specs.ServerHeads.{colour_map_head, text_head, update_head}
-use Rattle.rfb_wire.specs.ServerMessage.{ServerMessage, SetColorMapEntries, ServerCutText, LostText, data_of, fault_outside, set_color_map_entries}
+use Rattle.rfb_wire.specs.ServerMessage.{ServerMessage, SetColorMapEntries, ServerCutText, LostText, data_of, fault_outside, fields_of, set_color_map_entries}
 use Rattle.host_decoder.specs.declared.part.HostPart.TheVariants as part
 use Rattle.host_decoder.specs.declared.passed.Passed.TheVariants as passed
 use Rattle.host_decoder.specs.declared.state.HostState.{HostState}
@@ -22,6 +22,11 @@ pub outside_update : (painter : Painting) (start : Canvas) (sofar : List Paint) 
 outside_update painter start sofar state r holds none stands = inr (stands start painter (subst (λ ps. Holds start painter ps) none holds))
 
 -- ---- what is read after a part
+
+pub behind_kind : (w h : ℕ) (sofar : List Paint) (bs : List ℕ) → length bs ≡ 1 → after (form_of w h sofar part.Kind) bs ≡ fields_of host_format w h (slice_index bs 0)
+behind_kind w h sofar [] e = absurd (omega (arith, e))
+behind_kind w h sofar (b ∷ []) e = refl
+behind_kind w h sofar (b ∷ d ∷ bs) e = absurd (omega (arith, e))
 
 pub behind_count : (w h : ℕ) (sofar : List Paint) (bs : List ℕ) (count : ℕ) → length bs ≡ 3 → sofar ≡ [] → Spells update_head (take 3 bs) count → after (form_of w h sofar part.Count) bs ≡ rectangles w h sofar count
 behind_count w h sofar bs count e none spells = head_read 3 update_head (λ n. rectangles w h [] n) bs count e spells ∙ ap (λ ps. rectangles w h ps count) (sym none)

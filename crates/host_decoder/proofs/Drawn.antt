@@ -28,14 +28,14 @@ drawn_whole draw area canvas reading painted shows e =
 
 -- What is painted over a screen is painted over it around a rectangle.
 pub painted_around : (start : Canvas) (paints : List Paint) (area : Rect) (painter : Painting) → IsPaintedOver start paints painter → IsPaintedAround start paints area painter
-painted_around start paints area painter p = record { shows = λ x y lx ly e. p.shows x y lx ly; touched = p.touched; told = p.told }
+painted_around start paints area painter p = record { shows = λ x y lx ly e. p.shows x y lx ly; copies = p.copies; leads = p.leads; touched = p.touched; told = p.told }
 
 -- Whichever rectangle is drawn on next.
 pub around_anywhere : (start : Canvas) (paints : List Paint) (area other : Rect) (painter : Painting) → IsPaintedAround start paints area painter → IsPaintedAround start paints area (record painter { area = other })
-around_anywhere start paints area other painter p = record { shows = p.shows; touched = p.touched; told = p.told }
+around_anywhere start paints area other painter p = record { shows = p.shows; copies = p.copies; leads = p.leads; touched = p.touched; told = p.told }
 
 pub over_anywhere : (start : Canvas) (paints : List Paint) (other : Rect) (painter : Painting) → IsPaintedOver start paints painter → IsPaintedOver start paints (record painter { area = other })
-over_anywhere start paints other painter p = record { shows = p.shows; touched = p.touched; told = p.told }
+over_anywhere start paints other painter p = record { shows = p.shows; copies = p.copies; leads = p.leads; touched = p.touched; told = p.told }
 
 -- So it is where that alone was drawn on.
 pub still_around : (start : Canvas) (paints : List Paint) (old new : Painting) → IsSameAround old new → IsPaintedAround start paints old.area old → IsPaintedAround start paints old.area new
@@ -45,6 +45,8 @@ still_around start paints old new same around =
           let wide : x < old.width = subst (λ (n : ℕ). x < n) same.width lx in
           let high : y < old.height = subst (λ (n : ℕ). y < n) same.height ly in
           same.outside x y wide high e ∙ around.shows x y wide high e;
+      copies = same.copies ∙ around.copies;
+      leads = same.leads ∙ around.leads;
       touched = rw (same.width, same.height, same.marks) around.touched;
       told = same.told ∙ around.told;
     }

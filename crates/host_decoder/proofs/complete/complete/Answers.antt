@@ -2,8 +2,18 @@ use Rattle.std.proofs.Common.{inr, refl, sym, ap, subst, ◌∙◌}
 use Rattle.byte_reading.specs.Reading.{Reading, Faulty}
 use Rattle.rfb_wire.specs.ServerMessage.{ServerMessage}
 use Rattle.host_decoder.specs.Decoder.{GoesOn}
-use Rattle.host_decoder.proofs.Completed.{outside_update, behind_count, behind_encoding, behind_outside}
+use Rattle.host_decoder.proofs.Completed.{outside_update, behind_count, behind_encoding, behind_kind, behind_outside}
 use Rattle.host_decoder.proofs.complete.complete.Goals as goal
+
+pub returns-in-Kind-clause-goes_on : goal.returns-in-Kind-clause-goes_on
+returns-in-Kind-clause-goes_on c start sofar holds suited =
+    let w = c.args.painter.now.width in
+    let h = c.args.painter.now.height in
+    let none = rw c.in-Kind.is at suited in
+    let count = rw c.in-Kind.is at c.requires.count in
+    rw c.in-Kind.is
+    (subst (λ (r : Reading ServerMessage). GoesOn c.args.painter.now c.args.painter.now c.behind_kind.result start r) (sym (behind_kind w h sofar c.args.b.now count))
+    (outside_update c.args.painter.now start sofar c.behind_kind.result _ holds none c.behind_kind.ensures.stands))
 
 pub returns-in-Count-clause-goes_on : goal.returns-in-Count-clause-goes_on
 returns-in-Count-clause-goes_on c start sofar holds suited =
