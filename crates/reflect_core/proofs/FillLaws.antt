@@ -1,13 +1,14 @@
 -- How far a cut is filled from a board, run by run, and that it is a cut of the board's updates in the end. `Cut::fill`
 -- marks the due tiles, and shares the board's colours or copies theirs.
 use Rattle.std.proofs.Common.{◌≡◌, ℕ, suc, ◌+◌, ◌-◌, ◌<◌, ◌≤◌, Bool, true, false, List, [], ◌∷◌, length, get_or, take, Some, refl, ap, sym, ◌∙◌, subst, arith, inl, inr}
-use Rattle.std.specs.Prelude.{◌&&◌, ◌||◌, not, is_some, slice_get, if◌then◌else◌}
+use Rattle.std.specs.Prelude.{◌&&◌, ◌||◌, not, is_some, slice_get, if◌then◌else◌, None}
 use Rattle.std.specs.List.{list_all, range_with_len}
 use Rattle.std.proofs.lemmas.Bool.{both_ways, cases_Bool, cases_lt}
 use Rattle.std.proofs.lemmas.List.{take_all}
 use Rattle.std.proofs.lemmas.List.Folds.{list_all_at}
 use Rattle.std.proofs.lemmas.List.Sums.{list_all-from_AllPass}
 use Rattle.std.proofs.lemmas.List.FromFn.{length-range_with_len, get_or-range_with_len}
+use Rattle.copy_log.specs.Notes.{paints}
 use Rattle.painter.specs.Board.{BoardStands, Posted}
 use Rattle.raster.specs.declared.rect.Rect.{Rect}
 use Rattle.raster.specs.Screen.{IsWithin, LooksLike, holds, lay, meets, part_of, tile_count, tile_rect, value_at}
@@ -145,7 +146,7 @@ all_is test have next false done sent =
     sym (list_all_at (λ t. not (test t) || is_some (sent_at have t)) (range_with_len 0 n) sent.0 0 there
     (ap (λ t. not (test t) || is_some (sent_at have t)) (number_in_range n sent.0 0 there) ∙ fails (test sent.0) (is_some (sent_at have sent.0)) sent.2 sent.3))
 
-and_swap : (a b : Bool) → (a && b) ≡ (b && a)
+pub and_swap : (a b : Bool) → (a && b) ≡ (b && a)
 and_swap true true = refl
 and_swap true false = refl
 and_swap false true = refl
@@ -166,17 +167,18 @@ list_all_same f g n same = over (range_with_len 0 n) (λ k lt. ap f (number_in_r
     over [] each = refl
     over (x ∷ xs) each = (let head : f x ≡ g x = each 0 (omega arith) in let rest = over xs (λ k lt. each (suc k) (omega arith)) in (λ i. head i && rest i))
 
--- What has taken all that is due of a board is a cut of all the board's updates.
+-- What has taken all that is due of a board, and passes on no copies, is a cut of all the board's updates.
 pub cut_of_board : (board : Posted) (us : List Update) (area : Rect) (have : SentTiles) (next : ℕ) (cut : Cut) → board.width ≡ have.width → board.height ≡ have.height
     → board.grid.width ≡ have.width → board.grid.height ≡ have.height → IsWithin area have.width have.height → cut.number ≡ board.number → cut.host_size ≡ board.size → cut.bells ≡ board.bells → cut.text ≡ board.text
-    → IsFilled board.grid board.colours have area next cut → IsDone (at_tile have area next) (due_at board.grid have) → BoardStands board us → IsCutOf us (length us) area have cut
-cut_of_board board us area have next cut wide high grid_wide grid_high on number size bell text filled done stands =
+    → cut.passed.copies ≡ [] → IsFilled board.grid board.colours have area next cut → IsDone (at_tile have area next) (due_at board.grid have) → BoardStands board us → IsCutOf us (length us) area have None cut
+cut_of_board board us area have next cut wide high grid_wide grid_high on number size bell text none filled done stands =
     record {
       known = omega arith;
       number = number ∙ stands.number;
       size = size ∙ (stands.size ∙ ap last_size same);
       bells = bell ∙ (stands.bells ∙ ap bells same);
       text = text ∙ (stands.text ∙ ap last_text same);
+      copies = ap paints none;
       due = λ t lt. marks t lt ∙ (ap (λ (b : Bool). Some b) (lacks_is board.grid have area us t grid_wide grid_high stands.grid lt) ∙ ap (λ vs. Some (due_in have area vs t)) same);
       all_were_sent = all_is (lacks board.grid have area) have next cut.all_were_sent done filled.sent
           ∙ (list_all_same (λ t. not (lacks board.grid have area t) || is_some (sent_at have t)) (was_sent_if_due have area us) (tile_count have.width have.height)

@@ -1,3 +1,4 @@
 pub mod Vectors
 pub mod FillLaws
+pub mod PassLaws
 pub mod CutLaws

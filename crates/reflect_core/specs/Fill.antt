@@ -20,6 +20,7 @@ pub record TookRun (colours : List ℕ) (have : SentTiles) (run : Run) (old new 
   pub host_size : new.host_size ≡ old.host_size
   pub bells : new.bells ≡ old.bells
   pub text : new.text ≡ old.text
+  pub passed : new.passed ≡ old.passed
   pub inside : (t : ℕ) → run.first ≤ t → t < run.first + run.count → slice_get new.due.items t ≡ Some true
   pub before : (t : ℕ) → t < run.first → slice_get new.due.items t ≡ slice_get old.due.items t
   pub behind : (t : ℕ) → run.first + run.count ≤ t → slice_get new.due.items t ≡ slice_get old.due.items t

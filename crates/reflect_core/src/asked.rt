@@ -11,8 +11,8 @@ ghost use Rattle.tiles.specs.Touched.{Event, Requested, NewFormat, NewSize, WasC
 use raster::Rect;
 use std::marker::Model;
 
-/// The least rectangle that holds all pending requests, whether something was asked for since the last cut, and the
-/// number of that cut.
+/// The least rectangle that holds all pending requests, whether something was asked for since the last cut, the number
+/// of that cut, and that of the last answer.
 #[derive(Drop)]
 pub struct Asked {
     width: u64,
@@ -20,6 +20,7 @@ pub struct Asked {
     area: Option<Rect>,
     asked: bool,
     last: Option<u64>,
+    answered: Option<u64>,
 }
 
 impl Model for Asked {
@@ -34,6 +35,7 @@ impl Model for Asked {
       area = a.area;
       asked = a.asked;
       last = a.last;
+      answered = a.answered;
     } };
 
     ghost invariant = { λ a. IsScreenSize a.width a.height × LiesOn a.width a.height a.area };
@@ -53,6 +55,7 @@ impl Asked {
             area: None,
             asked: false,
             last: None,
+            answered: None,
         }
     }
 
@@ -76,7 +79,7 @@ impl Asked {
         self.asked = true;
     }
 
-    /// A pixel format was taken (RFC 6143, 7.5.1).
+    /// A pixel format was taken: what was answered before isn't held any longer (RFC 6143, 7.5.1).
     pub fn new_format(&mut self)
         ensures size { IsSameScreen self.old self.new }
         ensures last { self.new.last ≡ self.old.last }
@@ -84,6 +87,7 @@ impl Asked {
             → AskedStands self.new (NewFormat ∷ es) }
     {
         self.asked = true;
+        self.answered = None;
     }
 
     /// The source was cut, at this number.
@@ -98,16 +102,26 @@ impl Asked {
         self.last = Some(number);
     }
 
-    /// An answer was begun, or a size is told: nothing is pending any longer.
-    pub fn answered(&mut self)
+    /// An answer was begun, cut at this number: nothing is pending any longer.
+    pub fn answered(&mut self, number: u64)
         ensures size { IsSameScreen self.old self.new }
         ensures last { self.new.last ≡ self.old.last }
-        ensures stands { (area : Rect) (number : ℕ) (es : List Event) → AskedStands self.old es
+        ensures stands { (area : Rect) (es : List Event) → AskedStands self.old es
             → AskedStands self.new (Answered area number ∷ es) }
-        ensures resized { (size : Size) (es : List Event) → AskedStands self.old es
+    {
+        self.area = None;
+        self.answered = Some(number);
+    }
+
+    /// A size is told: nothing is pending any longer, and what was answered before isn't held (RFC 6143, 7.8.2).
+    pub fn resized(&mut self)
+        ensures size { IsSameScreen self.old self.new }
+        ensures last { self.new.last ≡ self.old.last }
+        ensures stands { (size : Size) (es : List Event) → AskedStands self.old es
             → AskedStands self.new (NewSize size ∷ es) }
     {
         self.area = None;
+        self.answered = None;
     }
 
     /// The pending area, which lies on the screen.
@@ -123,6 +137,13 @@ impl Asked {
         ensures { result ≡ self.now.asked }
     {
         self.asked
+    }
+
+    /// The number of the last answer, unless a pixel format was taken or a size was told since.
+    pub fn last_answer(&self) -> Option<u64>
+        ensures { result ≡ self.now.answered }
+    {
+        self.answered
     }
 
     /// The number of the last cut.

@@ -1,6 +1,7 @@
 //! How a cut is filled from a board.
 
-ghost use Rattle.std.specs.Prelude.{◌≡◌, ℕ, ◌+◌, ◌*◌, ◌<◌, ◌≤◌, true, List, length, slice_get, Some};
+ghost use Rattle.std.specs.Prelude.{◌≡◌, ℕ, ◌+◌, ◌*◌, ◌<◌, ◌≤◌, ◌&&◌, true, List, length, slice_get, None, Some};
+ghost use Rattle.copy_log.specs.Notes.{LogStands, is_marked};
 ghost use Rattle.painter.specs.Board.{BoardStands};
 ghost use Rattle.raster.specs.Screen.{IsWithin, tile_count};
 ghost use Rattle.raster.specs.Update.{Update};
@@ -8,6 +9,7 @@ ghost use Rattle.reflect_core.specs.Fill.{IsWhetherSent, TookRun};
 ghost use Rattle.reflect_core.specs.Source.{IsCutOf};
 
 use crate::cut::Cut;
+use copy_log::{CopyLog, Passed, SentAt};
 use painter::{Board, Shown};
 use raster::Rect;
 use tiles::{DueSince, Have, Run, Walk};
@@ -33,6 +35,17 @@ fn were_sent(have: &Have, first: u64, end: u64) -> bool
         }
     }
     true
+}
+
+/// Of the tiles that are due only those stay due that are lacked behind the copies that are passed on.
+fn leave_lacked(due: &mut [bool], passed: &Passed)
+    requires { length due.old ≡ tile_count passed.now.width passed.now.height }
+    ensures { (t : ℕ) → t < length due.old
+        → is_marked due.new t ≡ (is_marked due.old t && is_marked passed.now.lacks t) }
+{
+    for t in 0..due.len() {
+        due[t] = due[t] && passed.is_lacked(t as u64);
+    }
 }
 
 impl Cut {
@@ -61,8 +74,9 @@ impl Cut {
         );
     }
 
-    /// Keeps what a board shows of an area to a viewer that has these tiles: which of them are due there by the board's
-    /// grid. Where the cut has colours of its own, those of the due tiles, and no others, are copied.
+    /// Keeps what a board shows of an area to a viewer that has these tiles, and to which no copies are passed on:
+    /// which of them are due there by the board's grid. Where the cut has colours of its own, those of the due tiles,
+    /// and no others, are copied.
     fn keep(&mut self, board: &Board, area: &Rect, have: &Have)
         requires within { IsWithin area.now self.old.width self.old.height }
         requires screen { (have.now.width ≡ self.old.width) × (have.now.height ≡ self.old.height) }
@@ -71,12 +85,13 @@ impl Cut {
             → self.old.colours.items ≡ board.now.colours }
         ensures size { (self.new.width ≡ self.old.width) × (self.new.height ≡ self.old.height) }
         ensures cut { (us : List Update) → BoardStands board.now us
-            → IsCutOf us (length us) area.now have.now self.new }
+            → IsCutOf us (length us) area.now have.now None self.new }
     {
         self.number = board.number();
         self.host_size = board.last_size();
         self.bells = board.bells();
         self.text.copy_from(board.text());
+        self.passed.clear();
         self.due.as_mut_slice().fill(false);
         self.all_were_sent = true;
         let tiles = DueSince::new(board.grid(), have);
@@ -86,34 +101,57 @@ impl Cut {
         }
     }
 
+    /// Passes on the host's copies since the viewer's last answer, as far as they can be. Tiles that aren't lacked
+    /// behind them are no longer due.
+    fn pass_copies(&mut self, log: &CopyLog, area: &Rect, have: &Have, since: Option<u64>)
+        requires within { IsWithin area.now self.old.width self.old.height }
+        requires screen { (have.now.width ≡ self.old.width) × (have.now.height ≡ self.old.height) }
+        requires log { (log.now.width ≡ self.old.width) × (log.now.height ≡ self.old.height) }
+        ensures size { (self.new.width ≡ self.old.width) × (self.new.height ≡ self.old.height) }
+        ensures cut { (us : List Update) → LogStands log.now us
+            → IsCutOf us (length us) area.now have.now None self.old
+            → IsCutOf us (length us) area.now have.now since self.new }
+    {
+        let Some(number) = since else {
+            return;
+        };
+        let held = SentAt::new(have, number);
+        if log.has_copies(number) && log.pass(number, area, &held, &mut self.passed) {
+            leave_lacked(self.due.as_mut_slice(), &self.passed);
+        }
+    }
+
     /// Keeps what a board shows of an area to a viewer that has these tiles: which of them are due there by the board's
     /// grid, and, as one more owner of the board, their colours. Where no further owner is granted the due tiles are
-    /// copied. Board, `have` and cut have to be of one screen. It always succeeds, and takes no memory.
-    pub fn fill(&mut self, board: &Shown, area: &Rect, have: &Have)
+    /// copied. The host's copies since the viewer's last answer, of number `since`, are passed on as far as can be.
+    /// Board, `have` and cut have to be of one screen. It always succeeds, and takes no memory.
+    pub fn fill(&mut self, board: &Shown, area: &Rect, have: &Have, since: Option<u64>)
         requires within { IsWithin area.now self.old.width self.old.height }
         requires screen { (have.now.width ≡ self.old.width) × (have.now.height ≡ self.old.height) }
         requires board { (board.now.width ≡ self.old.width) × (board.now.height ≡ self.old.height) }
         ensures size { (self.new.width ≡ self.old.width) × (self.new.height ≡ self.old.height) }
         ensures cut { (us : List Update) → BoardStands board.now us
-            → IsCutOf us (length us) area.now have.now self.new }
+            → IsCutOf us (length us) area.now have.now since self.new }
     {
         let shown = board.board();
         // The colours that a board lends tell the proof how many it has.
         let _ = shown.colours();
         self.colours.show(board);
         self.keep(shown, area, have);
+        self.pass_copies(shown.log(), area, have, since);
     }
 
     /// Fills a cut in the same way from a board that isn't shared: the due tiles are copied.
-    pub fn fill_with_copy(&mut self, board: &Board, area: &Rect, have: &Have)
+    pub fn fill_with_copy(&mut self, board: &Board, area: &Rect, have: &Have, since: Option<u64>)
         requires within { IsWithin area.now self.old.width self.old.height }
         requires screen { (have.now.width ≡ self.old.width) × (have.now.height ≡ self.old.height) }
         requires board { (board.now.width ≡ self.old.width) × (board.now.height ≡ self.old.height) }
         ensures size { (self.new.width ≡ self.old.width) × (self.new.height ≡ self.old.height) }
         ensures cut { (us : List Update) → BoardStands board.now us
-            → IsCutOf us (length us) area.now have.now self.new }
+            → IsCutOf us (length us) area.now have.now since self.new }
     {
         self.colours.stand_alone(board.colours());
         self.keep(board, area, have);
+        self.pass_copies(board.log(), area, have, since);
     }
 }

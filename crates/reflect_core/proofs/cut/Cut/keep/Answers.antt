@@ -1,4 +1,5 @@
 use Rattle.std.proofs.Common.{◌≡◌, ℕ, List, ap, sym, ◌∙◌, subst, arith}
+use Rattle.copy_log.specs.Notes.{PassedOn}
 use Rattle.raster.specs.Screen.{IsWithin}
 use Rattle.tiles.specs.Grid.{Stamps, due_at}
 use Rattle.tiles.specs.Walk.{IsDone, IsNextRun}
@@ -27,6 +28,7 @@ loop-run-preserved c =
       host_size = c.take.ensures.host_size ∙ c.loop-run.invariant.host_size;
       bells = c.take.ensures.bells ∙ c.loop-run.invariant.bells;
       text = c.take.ensures.text ∙ c.loop-run.invariant.text;
+      passed = ap (λ (v : PassedOn). v.copies) c.take.ensures.passed ∙ c.loop-run.invariant.passed;
       filled = subst (λ (n : ℕ). IsFilled board.grid board.colours have area n c.take.new.self) (sym c.in-Some.ensures.run.1) (filled_more board.grid board.colours have area c.loop-run.walk.next run was c.take.new.self on c.loop-run.invariant.filled is took);
       shown = λ shared. let before = sym c.take.ensures.is_shared ∙ shared in c.take.ensures.kept before ∙ c.loop-run.invariant.shown before;
     }
@@ -47,4 +49,4 @@ returns-clause-cut c us stands =
     done_of c.loop-run.walk (at_tile have area c.loop-run.walk.next) _ board.grid _ have now.walk (c.new-tiles.ensures.0 ∙ c.grid.ensures.value) c.new-tiles.ensures.1 c.in_default.ensures.done.0 in
     cut_of_board board us area have c.loop-run.walk.next c.loop-run.self wide high
     (ap (λ (g : Stamps). g.width) (sym c.grid.ensures.value) ∙ (c.grid.ensures.size.0 ∙ wide)) (ap (λ (g : Stamps). g.height) (sym c.grid.ensures.value) ∙ (c.grid.ensures.size.1 ∙ high))
-    on now.number now.host_size now.bells now.text now.filled done stands
+    on now.number now.host_size now.bells now.text now.passed now.filled done stands

@@ -1,4 +1,4 @@
-use Rattle.std.proofs.Common.{◌≡◌, ◌-◌, true}
+use Rattle.std.proofs.Common.{◌≡◌, ◌-◌, true, []}
 use Rattle.raster.specs.Screen.{tile_count}
 use Rattle.reflect_core.proofs.FillLaws.{IsFilled, at_tile}
 use Rattle.reflect_core.proofs.cut.Cut.keep.Given as goal
@@ -11,6 +11,7 @@ invariant-loop-run l =
       host_size : l.self.host_size ≡ l.board.size;
       bells : l.self.bells ≡ l.board.bells;
       text : l.self.text ≡ l.board.text;
+      passed : l.self.passed.copies ≡ [];
       filled : IsFilled l.board.grid l.board.colours l.have l.area l.walk.next l.self;
       shown : l.self.colours.is_shared ≡ true → l.self.colours.items ≡ l.board.colours;
     }

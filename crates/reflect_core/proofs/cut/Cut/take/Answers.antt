@@ -19,6 +19,7 @@ returns c =
       host_size = refl;
       bells = refl;
       text = refl;
+      passed = refl;
       inside = λ t lo hi. at t ∙ c.mark_part.ensures.inside t lo hi;
       before = λ t lt. at t ∙ (c.mark_part.ensures.before t lt ∙ before t);
       behind = λ t le. at t ∙ (c.mark_part.ensures.behind t le ∙ before t);
