@@ -94,14 +94,21 @@ impl<J: Naming> Eye<J> {
         }
     }
 
-    /// Fills the cut with what the published updates show, and answers how many they are. From now on it knows them. It
-    /// takes no memory. It fails where the publisher has ended (`Gone`); then eye and cut are as they were.
-    pub fn cut(&mut self, area: &Rect, have: &Have, into: &mut Cut) -> Result<u64, Fault>
+    /// Fills the cut with what the published updates show, and answers how many they are. From now on it knows them.
+    /// `since` is the number of the viewer's last answer, where copies may be passed on to it. It takes no memory. It
+    /// fails where the publisher has ended (`Gone`); then eye and cut are as they were.
+    pub fn cut(
+        &mut self,
+        area: &Rect,
+        have: &Have,
+        since: Option<u64>,
+        into: &mut Cut,
+    ) -> Result<u64, Fault>
         requires within { IsWithin area.now J.width J.height }
         requires screen { (have.now.width ≡ J.width) × (have.now.height ≡ J.height) }
         requires room { (into.old.width ≡ J.width) × (into.old.height ≡ J.height) }
         ensures grows { IfOk result (λ n. Begins self.old self.new × (n ≡ length self.new)) }
-        ensures cut { IfOk result (λ n. IsCutOf self.new n area.now have.now into.new) }
+        ensures cut { IfOk result (λ n. IsCutOf self.new n area.now have.now since into.new) }
         ensures room { (into.new.width ≡ into.old.width) × (into.new.height ≡ into.old.height) }
         ensures gone { IfErr result (λ fault.
             (fault ≡ Gone) × (self.new ≡ self.old) × (into.new ≡ into.old)) }
@@ -119,7 +126,7 @@ impl<J: Naming> Eye<J> {
         // Nothing reads `both`: as in `learn_first`, its clauses say that the two are beginnings of one history.
         let mut both = self.front.again();
         both.learn(&front);
-        copy.show(area, have, into);
+        copy.show(area, have, since, into);
         self.number = number;
         self.front = front;
         Ok(number)

@@ -104,15 +104,15 @@ impl<J: Naming> Published<J> {
     }
 
     /// Fills a cut with what it shows. It takes no memory.
-    pub(crate) fn show(&self, area: &Rect, have: &Have, into: &mut Cut)
+    pub(crate) fn show(&self, area: &Rect, have: &Have, since: Option<u64>, into: &mut Cut)
         requires within { IsWithin area.now J.width J.height }
         requires size { (have.now.width ≡ J.width) × (have.now.height ≡ J.height) }
         requires room { (into.old.width ≡ J.width) × (into.old.height ≡ J.height) }
         ensures size { (into.new.width ≡ into.old.width) × (into.new.height ≡ into.old.height) }
         ensures cut { IsCutOf (puts_of self.now) (length (puts_of self.now)) area.now have.now
-            into.new }
+            since into.new }
     {
-        into.fill(&self.board, area, have);
+        into.fill(&self.board, area, have, since);
     }
 
     /// Goes on to the board of a later history.

@@ -41,8 +41,8 @@ impl<J: Naming> Model for Stamped<J> {
         × (s.number ≡ length (puts_of s.front)) };
 }
 
-/// Where nobody else has the board, makes it show what a newer one shows and one update more, and answers true. It keeps
-/// what is `wanted` of it (`Board::catch_up`).
+/// Where nobody else has the board, makes it show what a newer one shows and one update more, and answers true. It
+/// keeps what is `wanted` of it (`Board::catch_up`).
 fn go_on(board: &mut Arc<Board, Global>, newer: &Board, patch: &Patch, wanted: Wanted) -> bool
     requires same { IsSameScreen (arc_value board.old) newer.now }
     requires size { (patch.now.width ≡ (arc_value board.old).width)

@@ -162,12 +162,19 @@ impl<J: Naming> ScreenSource for Watcher<J> {
         number.max(self.last.saturating_sub(1))
     }
 
-    fn cut(&mut self, area: &Rect, have: &Have, into: &mut Cut) -> Result<u64, Fault>
+    fn cut(
+        &mut self,
+        area: &Rect,
+        have: &Have,
+        since: Option<u64>,
+        into: &mut Cut,
+    ) -> Result<u64, Fault>
         requires within { IsWithin area.now J.width J.height }
         requires screen { (have.now.width ≡ J.width) × (have.now.height ≡ J.height) }
         requires room { (into.old.width ≡ J.width) × (into.old.height ≡ J.height) }
         ensures reply { IfOk result (λ n.
-            IsCutOf self.new.updates n area.now have.now into.new × (n ≡ length self.new.updates)) }
+            IsCutOf self.new.updates n area.now have.now since into.new
+            × (n ≡ length self.new.updates)) }
         ensures rises { IfOk result (λ n.
             (self.old.tally ≤ n) × (self.old.tally ≤ self.new.tally) × (n ≤ self.new.tally + 1)) }
         ensures grows { Begins self.old.updates self.new.updates }
@@ -177,13 +184,13 @@ impl<J: Naming> ScreenSource for Watcher<J> {
         ensures gone { IfErr result (λ fault.
             (fault ≡ Gone) × (self.new ≡ self.old) × (into.new ≡ into.old)) }
     {
-        let number = self.eye.cut(area, have, into)?;
+        let number = self.eye.cut(area, have, since, into)?;
         self.last = number;
         Ok(number)
     }
 
-    /// Notes what is wanted for this watcher. Where two watchers or more want forms, the publisher has forms and encoded
-    /// areas made of what changes; where two or more want parts, they share those that one of them makes.
+    /// Notes what is wanted for this watcher. Where two watchers or more want forms, the publisher has forms and
+    /// encoded areas made of what changes; where two or more want parts, they share those that one of them makes.
     fn want(&self, wanted: Wanted) {
         self.claim.set(wanted);
     }
