@@ -1,6 +1,6 @@
 -- The bytes of an answer are read as its rectangles, and these bring what the screen shows. So a viewer that follows
 -- its answers holds what it asked for.
-use Rattle.std.proofs.Common.{◌≡◌, ℕ, ◌+◌, ◌-◌, ◌^◌, ◌<◌, ◌≤◌, Bool, true, false, cond, List, [], ◌∷◌, length, map, Option, Some, None, refl, ap, sym, ◌∙◌, arith, inl, inr, zero, suc, eq-eqb}
+use Rattle.std.proofs.Common.{◌≡◌, ℕ, ◌+◌, ◌-◌, ◌^◌, ◌<◌, ◌≤◌, Bool, true, false, cond, List, [], ◌∷◌, ◌++◌, length, map, Option, Some, None, refl, ap, sym, ◌∙◌, arith, inl, inr, zero, suc, eq-eqb, length-append}
 use Rattle.std.proofs.lemmas.Bool.{eqb-true}
 use Rattle.std.specs.Prelude.{◌&&◌, ◌==◌, slice_index, if◌then◌else◌}
 use Rattle.pixel_format.specs.PixelFormat.{PixelFormat, IsAccepted, tint}
@@ -18,10 +18,10 @@ use Rattle.joined_runs.specs.declared.rect_form.RectForm.TheVariants.{OfRows}
 use Rattle.joined_runs.specs.Joined.{form_of, saves_bytes_as}
 use Rattle.joined_runs.proofs.Spelled.{form_is_read}
 use Rattle.raster.specs.Written.{AreValues}
-use Rattle.raster.specs.Update.{Paint, Put, Copy}
+use Rattle.raster.specs.Update.{Paint, Put, Copy, Resized}
 use Rattle.rfb_wire.specs.ServerMessage.{ServerMessage, FramebufferUpdate, rectangle, server_message}
 use Rattle.update_encoder.specs.Follower.{after_rectangle, after_rectangles, only_message}
-use Rattle.update_encoder.specs.Answer.{pixels_in, colours_in, same_numbers, repeats, repeats_one, copy_source, all_spelled, answer_bytes}
+use Rattle.update_encoder.specs.Answer.{AreCopiesOn, IsCopyOn, pixels_in, colours_in, copy_bytes, same_numbers, repeats, repeats_one, copy_source, all_spelled, answer_bytes}
 use Rattle.raster.proofs.Places.{Has, has_holds, holds_has, values_at, tinted_at, length_values}
 use Rattle.raster.proofs.Spellings.{Each}
 use Rattle.rfb_wire.specs.Written.{AreRead}
@@ -217,6 +217,26 @@ chosen_is_read : (runs : RectForm) (encoding : Encoding) (saves : Bool) (format 
 chosen_is_read runs encoding true format canvas r w h ok lw lh part = put_is_read runs encoding format canvas r w h ok lw lh part
 chosen_is_read runs encoding false format canvas r w h ok lw lh part = put_is_read OfRows Raw format canvas r w h ok lw lh part
 
+-- Each copy of the host that is passed on is read as that copy.
+pub copy_of_host_is_read : (format : PixelFormat) (w h : ℕ) (p : Paint) → w ≤ 4096 → h ≤ 4096 → IsCopyOn w h p → Spells (rectangle format w h) (copy_bytes p) p
+copy_of_host_is_read format w h (Copy r sx sy) lw lh on = copy_is_read format w h r sx sy (omega arith) (omega arith) on.0 on.1
+copy_of_host_is_read format w h (Put r colours) lw lh on = absurd on
+copy_of_host_is_read format w h (Resized size) lw lh on = absurd on
+
+copies_are_read : (format : PixelFormat) (w h : ℕ) (copies : List Paint) → w ≤ 4096 → h ≤ 4096 → AreCopiesOn w h copies → AreRead format w h (map copy_bytes copies) copies
+copies_are_read format w h [] lw lh on = tt
+copies_are_read format w h (p ∷ ps) lw lh on = (
+  copy_of_host_is_read format w h p lw lh (on 0 p (omega arith)),
+  copies_are_read format w h ps lw lh (λ k d lt. on (suc k) d (omega (arith, lt))),
+)
+
+-- Rectangles are read one behind another.
+both_are_read : (format : PixelFormat) (w h : ℕ) (first others : List (List ℕ)) (ps qs : List Paint) → AreRead format w h first ps → AreRead format w h others qs → AreRead format w h (first ++ others) (ps ++ qs)
+both_are_read format w h [] others [] qs a b = b
+both_are_read format w h [] others (p ∷ ps) qs a b = absurd a
+both_are_read format w h (f ∷ first) others [] qs a b = absurd a
+both_are_read format w h (f ∷ first) others (p ∷ ps) qs a b = (a.0, both_are_read format w h first others ps qs a.1 b)
+
 module _ (style : Style) (canvas : Canvas) where
   abbrev format : PixelFormat
   format = style.format
@@ -247,11 +267,19 @@ pub spells_only : (format : PixelFormat) (w h : ℕ) (bytes : List ℕ) (m : Ser
 spells_only format w h bytes m k =
     chosen (taken (server_message format w h) bytes == length bytes) (whole_of (after (server_message format w h) bytes)) None (eq-eqb _ _ k.whole) ∙ ap whole_of k.says
 
--- An answer is exactly one FramebufferUpdate of these rectangles.
-pub answer_is_read : (style : Style) (canvas : Canvas) (sent : Bool) (rs : List Rect) (w h : ℕ) → IsAccepted style.format → w ≤ 4096 → h ≤ 4096 → Each (IsPart w h) rs → length rs < 2 ^ 16
-    → Spells (server_message style.format w h) (answer_bytes style canvas sent rs) (FramebufferUpdate (all_brought style.format canvas (style.choice.copy && sent) None rs))
-answer_is_read style canvas sent rs w h ok lw lh parts few =
+-- An answer is exactly one FramebufferUpdate of its copies, and then of its rectangles.
+pub answer_is_read : (style : Style) (canvas : Canvas) (copies : List Paint) (sent : Bool) (rs : List Rect) (w h : ℕ) → IsAccepted style.format → w ≤ 4096 → h ≤ 4096 → AreCopiesOn w h copies → Each (IsPart w h) rs → length copies + length rs < 2 ^ 16
+    → Spells (server_message style.format w h) (answer_bytes style canvas copies sent rs) (FramebufferUpdate (copies ++ all_brought style.format canvas (style.choice.copy && sent) None rs))
+answer_is_read style canvas copies sent rs w h ok lw lh on parts few =
     let copy : Bool = style.choice.copy && sent in
-    update_is_read style.format w h (all_spelled style canvas copy None rs) (all_brought style.format canvas copy None rs)
-    (omega (arith, few, count_spelled style canvas copy None rs))
-    (spelled_are_read style canvas copy None rs w h ok lw lh tt parts)
+    let front : List (List ℕ) = map copy_bytes copies in
+    let behind : List (List ℕ) = all_spelled style canvas copy None rs in
+    let brings : List Paint = all_brought style.format canvas copy None rs in
+    update_is_read style.format w h (front ++ behind) (copies ++ brings)
+    (omega (arith, few, length-append front behind, length-map copies copy_bytes, count_spelled style canvas copy None rs))
+    (both_are_read style.format w h front behind copies brings (copies_are_read style.format w h copies lw lh on) (spelled_are_read style canvas copy None rs w h ok lw lh tt parts))
+
+-- What a follower holds after some paints and then others.
+pub after_both : (held : Map (Option ℕ)) (ps qs : List Paint) → after_rectangles held (ps ++ qs) ≡ after_rectangles (after_rectangles held ps) qs
+after_both held [] qs = refl
+after_both held (p ∷ ps) qs = after_both (after_rectangle held p) ps qs

@@ -1,22 +1,22 @@
 -- An answer of a cut is one of the screen that was cut. A cut shows no more than its due tiles, and an answer needs no
 -- more.
-use Rattle.std.proofs.Common.{◌≡◌, ℕ, zero, suc, ◌+◌, ◌-◌, ◌*◌, ◌/◌, ◌%◌, ◌<◌, ◌≤◌, Bool, true, false, cond, List, [], ◌∷◌, take, Option, Some, None, refl, sym, ap, ◌∙◌, arith, inl, inr}
-use Rattle.std.specs.Prelude.{min, max, map, nat_lt, ◌&&◌, ◌||◌, ◌==◌, unwrap_or}
+use Rattle.std.proofs.Common.{◌≡◌, ℕ, zero, suc, ◌+◌, ◌-◌, ◌*◌, ◌/◌, ◌%◌, ◌<◌, ◌≤◌, Bool, true, false, cond, List, [], ◌∷◌, take, Option, Some, None, refl, sym, ap, ◌∙◌, arith}
+use Rattle.std.specs.Prelude.{min, max, map, nat_lt, ◌&&◌, ◌||◌, ◌==◌, ◌++◌}
 use Rattle.std.specs.List.{flat_map, range_with_len}
 use Rattle.std.proofs.Math.Path.{fun_ext}
-use Rattle.std.proofs.lemmas.Bool.{and_parts, cases_lt, ltb-true}
+use Rattle.std.proofs.lemmas.Bool.{and_parts, ltb-true}
 use Rattle.pixel_format.specs.PixelFormat.{tint}
 use Rattle.raster.specs.declared.encoding.Encoding.TheVariants.{Raw}
 use Rattle.raster.specs.declared.rect.Rect.{Rect}
 use Rattle.raster.specs.Encoding.{encoding_number, form}
 use Rattle.raster.specs.Screen.{Canvas, IsWithin, common, holds, meets, part_of, tile_count, tile_rect, tiles_across}
 use Rattle.raster.specs.Size.{IsScreenSize}
-use Rattle.raster.specs.Update.{Update, screen}
+use Rattle.raster.specs.Update.{Paint, Update, screen}
 use Rattle.raster.proofs.Places.{holds_has, tile_of, tile_of_has, tile_of_there}
 use Rattle.raster.proofs.Spellings.{Each}
 use Rattle.raster.proofs.Values.{column_in, row_in}
 use Rattle.reflect_core.specs.declared.cut.Cut.{Cut}
-use Rattle.reflect_core.specs.Source.{IsCutOf, due_in, marked}
+use Rattle.reflect_core.specs.Source.{IsCutOf, marked}
 use Rattle.joined_runs.specs.Joined.{form_of, saves_bytes_as}
 use Rattle.rfb_wire.specs.Writing.{rectangle_bytes, update_bytes}
 use Rattle.tiles.specs.Brings.{IsPart, some_holds}
@@ -25,10 +25,11 @@ use Rattle.tiles.specs.Touched.{runs, runs_of_row}
 use Rattle.tiles.proofs.Brought.{runs_bring_the_due}
 use Rattle.tiles.proofs.FoundRuns.{row_of_tile, row_under}
 use Rattle.tiles.proofs.RunLaws.{runs_within}
-use Rattle.update_encoder.specs.Answer.{all_spelled, answer_bytes, colours_in, copy_source, repeats_one, same_numbers, spelled}
+use Rattle.update_encoder.specs.Answer.{all_spelled, answer_bytes, colours_in, copy_bytes, copy_source, repeats_one, same_numbers, spelled}
 use Rattle.update_encoder.specs.Coming.{shown}
 use Rattle.update_encoder.specs.Style.{Style}
-use Rattle.update_encoder.specs.Written.{CutIsAnswered, is_due_of}
+use Rattle.update_encoder.specs.Written.{CutIsAnswered, is_still_due_of}
+use Rattle.update_encoder.proofs.StillDue.{due_where_met, shown_as_it_was}
 use Rattle.raster.proofs.PixelRows.{map_same}
 use Rattle.raster.specs.declared.tile.TheConstants.{TILE_SIDE}
 
@@ -91,6 +92,13 @@ or_right : (a b : Bool) → b ≡ true → (a || b) ≡ true
 or_right true b e = refl
 or_right false b e = e
 
+and_alike : (a b c : Bool) → (c ≡ true → a ≡ b) → (a && c) ≡ (b && c)
+and_alike a b true same = ap (λ d. d && true) (same refl)
+and_alike true true false same = refl
+and_alike true false false same = refl
+and_alike false true false same = refl
+and_alike false false false same = refl
+
 -- Where two screens show the same in all of some rectangles, they do in each.
 pub each_same : (a b : Canvas) (w h : ℕ) (rs : List Rect) → Each (IsPart w h) rs → ((x y : ℕ) → x < w → y < h → some_holds rs x y ≡ true → a x y ≡ b x y) → Each (SameIn a b) rs
 each_same a b w h [] parts same = tt
@@ -103,7 +111,7 @@ each_same a b w h (r ∷ rs) parts same = (
   each_same a b w h rs parts.1 (λ x y lx ly e. same x y lx ly (or_right (holds r x y) (some_holds rs x y) e)),
 )
 
-module _ (us : List Update) (n : ℕ) (area : Rect) (have : SentTiles) (cut : Cut) (is : IsCutOf us n area have cut) (wide : have.width ≡ cut.width) (high : have.height ≡ cut.height) (size : IsScreenSize cut.width cut.height) where
+module _ (us : List Update) (n : ℕ) (area : Rect) (have : SentTiles) (since : Option ℕ) (cut : Cut) (is : IsCutOf us n area have since cut) (wide : have.width ≡ cut.width) (high : have.height ≡ cut.height) (size : IsScreenSize cut.width cut.height) where
   abbrev w : ℕ
   w = cut.width
 
@@ -113,53 +121,28 @@ module _ (us : List Update) (n : ℕ) (area : Rect) (have : SentTiles) (cut : Cu
   abbrev seen : List Update
   seen = take n us
 
-  rect_is : (t : ℕ) → tile_rect have.width have.height t ≡ tile_rect w h t
-  rect_is t = ap (λ a. tile_rect a have.height t) wide ∙ ap (λ a. tile_rect w a t) high
+  -- what was still due
+  abbrev still : ℕ → Bool
+  still t = is_still_due_of have area since seen t
 
-  count_is : tile_count have.width have.height ≡ tile_count w h
-  count_is = ap (λ a. tile_count a have.height) wide ∙ ap (λ a. tile_count w a) high
-
-  marked_is : (t : ℕ) → t < tile_count w h → marked cut t ≡ due_in have area seen t
-  marked_is t lt = ap (λ (o : Option Bool). unwrap_or o false) (is.due t (omega (arith, count_is, lt)))
-
-  twice : (a b : Bool) → ((a && b) && a) ≡ (b && a)
-  twice true true = refl
-  twice true false = refl
-  twice false true = refl
-  twice false false = refl
-
-  passes_there : (t : ℕ) → t < tile_count w h → (marked cut t && meets area (tile_rect w h t)) ≡ (is_due_of have seen t && meets area (tile_rect w h t))
-  passes_there t lt =
-      ap (λ b. b && meets area (tile_rect w h t)) (marked_is t lt)
-      ∙ (ap (λ (r : Rect). (meets area r && is_due_of have seen t) && meets area (tile_rect w h t)) (rect_is t) ∙ twice (meets area (tile_rect w h t)) (is_due_of have seen t))
-
-  -- after the last tile there is none
-  none_met : (t : ℕ) (b : Bool) → tile_count w h ≤ t → meets area (tile_rect w h t) ≡ b → b ≡ false
-  none_met t false le e = refl
-  none_met t true le e =
-      absurd (
+  -- A tile that the area meets is one of the screen's.
+  met_there : (t : ℕ) → meets area (tile_rect w h t) ≡ true → t < tile_count w h
+  met_there t met =
       let across : ℕ = tiles_across w in
-      let both = and_parts (nat_lt (max area.x (t % across * TILE_SIDE)) (min (area.x + area.w) (t % across * TILE_SIDE + min TILE_SIDE (w - t % across * TILE_SIDE)))) (nat_lt (max area.y (t / across * TILE_SIDE)) (min (area.y + area.h) (t / across * TILE_SIDE + min TILE_SIDE (h - t / across * TILE_SIDE)))) e in
+      let both = and_parts (nat_lt (max area.x (t % across * TILE_SIDE)) (min (area.x + area.w) (t % across * TILE_SIDE + min TILE_SIDE (w - t % across * TILE_SIDE)))) (nat_lt (max area.y (t / across * TILE_SIDE)) (min (area.y + area.h) (t / across * TILE_SIDE + min TILE_SIDE (h - t / across * TILE_SIDE)))) met in
       let down : max area.y (t / across * TILE_SIDE) < min (area.y + area.h) (t / across * TILE_SIDE + min TILE_SIDE (h - t / across * TILE_SIDE)) = ltb-true _ _ both.1 in
       let high_enough : t / across < tiles_across h = omega (arith, down) in
       let some : 0 < across = omega (arith, size.wide.0) in
-      let place : t < tile_count w h = row_under t (t / across) across (tiles_across h) high_enough (row_of_tile across t some).1 in
-      omega (arith, place, le)
-      )
+      row_under t (t / across) across (tiles_across h) high_enough (row_of_tile across t some).1
 
-  passes_past : (t : ℕ) → tile_count w h ≤ t → (marked cut t && meets area (tile_rect w h t)) ≡ (is_due_of have seen t && meets area (tile_rect w h t))
-  passes_past t le =
-      let none : meets area (tile_rect w h t) ≡ false = none_met t (meets area (tile_rect w h t)) le refl in
-      ap (λ b. marked cut t && b) none ∙ (and_false (marked cut t) ∙ sym (ap (λ b. is_due_of have seen t && b) none ∙ and_false (is_due_of have seen t)))
-    where
-      and_false : (b : Bool) → (b && false) ≡ false
-      and_false true = refl
-      and_false false = refl
+  passes : (t : ℕ) → (marked cut t && meets area (tile_rect w h t)) ≡ (still t && meets area (tile_rect w h t))
+  passes t =
+      and_alike (marked cut t) (still t) (meets area (tile_rect w h t)) (λ met. due_where_met us n area have since cut is wide high t (met_there t met) met)
 
-  runs_same : runs w h area (marked cut) ≡ runs w h area (is_due_of have seen)
+  runs_same : runs w h area (marked cut) ≡ runs w h area (is_still_due_of have area since seen)
   runs_same =
       ap (λ (p : ℕ → Bool). map (common area) (flat_map (runs_of_row p (tiles_across w)) (range_with_len 0 (tiles_across h))))
-      (fun_ext (λ t. elim (cases_lt t (tile_count w h)) [ inl there ↦ passes_there t there | inr past ↦ passes_past t past ]))
+      (fun_ext passes)
 
   shows_same : IsWithin area w h → (x y : ℕ) → x < w → y < h → some_holds (runs w h area (marked cut)) x y ≡ true → shown cut x y ≡ screen seen x y
   shows_same on x y lx ly e =
@@ -167,14 +150,14 @@ module _ (us : List Update) (n : ℕ) (area : Rect) (have : SentTiles) (cut : Cu
       let there : t < tile_count w h = tile_of_there w h x y lx ly in
       let tile : holds (tile_rect w h t) x y ≡ true = holds_has (tile_rect w h t) x y (tile_of_has w h x y lx ly) in
       let both = and_parts (holds area x y) (marked cut t) (sym ((runs_bring_the_due w h area (marked cut) size.wide.1 size.high.1 on).exactly t x y there tile) ∙ e) in
-      is.colours t x y (omega (arith, count_is, there)) (sym (marked_is t there) ∙ both.1) both.0 (ap (λ (r : Rect). holds r x y) (rect_is t) ∙ tile)
+      shown_as_it_was us n area have since cut is wide high t x y there tile both.0 both.1
 
-  pub answered : (style : Style) (sent : Bool) → IsWithin area w h
-      → answer_bytes style (shown cut) sent (runs w h area (marked cut)) ≡ answer_bytes style (screen seen) sent (runs w h area (is_due_of have seen))
-  answered style sent on =
-      ap update_bytes (all_same style (shown cut) (screen seen) (style.choice.copy && sent) None (runs w h area (marked cut)) tt
+  pub answered : (style : Style) (copies : List Paint) (sent : Bool) → IsWithin area w h
+      → answer_bytes style (shown cut) copies sent (runs w h area (marked cut)) ≡ answer_bytes style (screen seen) copies sent (runs w h area (is_still_due_of have area since seen))
+  answered style copies sent on =
+      ap (λ rs. update_bytes (map copy_bytes copies ++ rs)) (all_same style (shown cut) (screen seen) (style.choice.copy && sent) None (runs w h area (marked cut)) tt
       (each_same (shown cut) (screen seen) w h (runs w h area (marked cut)) (runs_within w h area (marked cut) on) (shows_same on)))
-      ∙ ap (λ (rs : List Rect). answer_bytes style (screen seen) sent rs) runs_same
+      ∙ ap (λ (rs : List Rect). answer_bytes style (screen seen) copies sent rs) runs_same
 
 pub cut_is_answered : CutIsAnswered
-cut_is_answered us n area have cut style sent is wide high size on = answered us n area have cut is wide high size style sent on
+cut_is_answered us n area have since cut style copies sent is wide high size on = answered us n area have since cut is wide high size style copies sent on

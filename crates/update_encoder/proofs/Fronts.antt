@@ -1,7 +1,7 @@
 -- What is at the front of a piece: a header of 12 bytes, and data after it. A rectangle is written so.
 use Rattle.std.proofs.Common.{◌≡◌, ℕ, ◌+◌, ◌*◌, ◌≤◌, Bool, true, false, cond, List, [], ◌++◌, length, take, drop, sym, ap, ◌∙◌, arith, length-append}
 use Rattle.std.specs.Prelude.{◌==◌, map}
-use Rattle.std.proofs.lemmas.List.{append-nil, drop_all, length-take}
+use Rattle.std.proofs.lemmas.List.{append-nil, drop_all, length-take, length-take-le, take-append-le}
 use Rattle.std.proofs.lemmas.List.Folds.{flat_map-map}
 use Rattle.std.proofs.Math.Nat.{mul-le-mul_right}
 use Rattle.std.proofs.Math.Seq.{take-append-add}
@@ -46,3 +46,11 @@ pixels_few format n = mul-le-mul_right n (pixel_few format)
 -- What is taken of a list isn't more than it has.
 pub within_front : (bytes now : List ℕ) (n : ℕ) → n ≡ length bytes → take n now ≡ bytes → n ≤ length now
 within_front bytes now n count front = omega (arith, count, ap length front, length-take n now)
+
+-- What is put behind a front, and what stood before it, are a longer front.
+pub goes_on : (front bytes out new rest : List ℕ) (at n : ℕ) → at ≤ length out → take at out ≡ front → IsFront bytes new n → take (at + n) (take at out ++ (new ++ rest)) ≡ front ++ bytes
+goes_on front bytes out new rest at n le before now =
+    ap (λ k. take (k + n) (take at out ++ (new ++ rest))) (sym (length-take-le at out le))
+    ∙ (take-append-add (take at out) (new ++ rest) n
+    ∙ (ap (λ t. take at out ++ t) (take-append-le n new rest (within_front bytes new n now.count now.front) ∙ now.front)
+    ∙ ap (λ t. t ++ bytes) before))

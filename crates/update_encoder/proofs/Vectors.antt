@@ -7,7 +7,7 @@ use Rattle.raster.specs.declared.rect.Rect.{Rect}
 use Rattle.raster.specs.declared.encoding.Encoding.{Encoding}
 use Rattle.raster.specs.declared.encoding.Encoding.TheVariants.{Raw, Rre, Hextile}
 use Rattle.raster.specs.Screen.{Canvas}
-use Rattle.raster.specs.Update.{Paints, Put, Update}
+use Rattle.raster.specs.Update.{Paints, Put, Copy, Update}
 use Rattle.rfb_wire.specs.ClientMessage.{Choice}
 use Rattle.joined_runs.specs.declared.rect_form.RectForm.TheVariants.{OfRows, Joined}
 use Rattle.update_encoder.specs.Answer.{answer_bytes}
@@ -49,24 +49,24 @@ abbrev copy_head : ℕ → List ℕ
 copy_head y = 0 ∷ 0 ∷ 0 ∷ y ∷ 0 ∷ 1 ∷ 0 ∷ 1 ∷ 0 ∷ 0 ∷ 0 ∷ 1 ∷ []
 
 -- A rectangle directly below one that shows the same is a CopyRect of it, and the next one of that.
-pub copies_from_above : answer_bytes (of_rows bgr233 with_copies) red true (rect 0 0 1 1 ∷ rect 0 1 1 1 ∷ rect 0 2 1 1 ∷ [])
+pub copies_from_above : answer_bytes (of_rows bgr233 with_copies) red [] true (rect 0 0 1 1 ∷ rect 0 1 1 1 ∷ rect 0 2 1 1 ∷ [])
     ≡ (0 ∷ 0 ∷ 0 ∷ 3 ∷ []) ++ raw_head 0 ++ (7 ∷ []) ++ copy_head 1 ++ (0 ∷ 0 ∷ 0 ∷ 0 ∷ []) ++ copy_head 2 ++ 0 ∷ 0 ∷ 0 ∷ 1 ∷ []
 copies_from_above = refl
 
 -- It isn't where a row lies between them.
-pub no_copy_over_a_gap : answer_bytes (of_rows bgr233 with_copies) red true (rect 0 0 1 1 ∷ rect 0 2 1 1 ∷ []) ≡ (0 ∷ 0 ∷ 0 ∷ 2 ∷ []) ++ raw_head 0 ++ (7 ∷ []) ++ raw_head 2 ++ 7 ∷ []
+pub no_copy_over_a_gap : answer_bytes (of_rows bgr233 with_copies) red [] true (rect 0 0 1 1 ∷ rect 0 2 1 1 ∷ []) ≡ (0 ∷ 0 ∷ 0 ∷ 2 ∷ []) ++ raw_head 0 ++ (7 ∷ []) ++ raw_head 2 ++ 7 ∷ []
 no_copy_over_a_gap = refl
 
 -- Nor where a tile of the answer was never sent, nor where the viewer doesn't take it.
-pub no_copy_of_new_tiles : answer_bytes (of_rows bgr233 with_copies) red false (rect 0 0 1 1 ∷ rect 0 1 1 1 ∷ []) ≡ (0 ∷ 0 ∷ 0 ∷ 2 ∷ []) ++ raw_head 0 ++ (7 ∷ []) ++ raw_head 1 ++ 7 ∷ []
+pub no_copy_of_new_tiles : answer_bytes (of_rows bgr233 with_copies) red [] false (rect 0 0 1 1 ∷ rect 0 1 1 1 ∷ []) ≡ (0 ∷ 0 ∷ 0 ∷ 2 ∷ []) ++ raw_head 0 ++ (7 ∷ []) ++ raw_head 1 ++ 7 ∷ []
 no_copy_of_new_tiles = refl
 
-pub no_copy_unasked : answer_bytes (of_rows bgr233 (record { kind = Raw; copy = false; resizes = false; zrle = false })) red true (rect 0 0 1 1 ∷ rect 0 1 1 1 ∷ [])
+pub no_copy_unasked : answer_bytes (of_rows bgr233 (record { kind = Raw; copy = false; resizes = false; zrle = false })) red [] true (rect 0 0 1 1 ∷ rect 0 1 1 1 ∷ [])
     ≡ (0 ∷ 0 ∷ 0 ∷ 2 ∷ []) ++ raw_head 0 ++ (7 ∷ []) ++ raw_head 1 ++ 7 ∷ []
 no_copy_unasked = refl
 
 -- A copy wants equal colours: here two have the same pixel value and aren't equal.
-pub no_copy_by_pixels : answer_bytes (of_rows bgr233 with_copies) (λ x y. if y == 0 then 0xFF0000 else 0xFE0000) true (rect 0 0 1 1 ∷ rect 0 1 1 1 ∷ [])
+pub no_copy_by_pixels : answer_bytes (of_rows bgr233 with_copies) (λ x y. if y == 0 then 0xFF0000 else 0xFE0000) [] true (rect 0 0 1 1 ∷ rect 0 1 1 1 ∷ [])
     ≡ (0 ∷ 0 ∷ 0 ∷ 2 ∷ []) ++ raw_head 0 ++ (7 ∷ []) ++ raw_head 1 ++ 7 ∷ []
 no_copy_by_pixels = refl
 
@@ -76,6 +76,19 @@ answer_is_known = refl
 
 pub format_makes_unknown : (follower 1 1 (Answer ((0 ∷ 0 ∷ 0 ∷ 1 ∷ []) ++ raw_head 0 ++ 0 ∷ 0 ∷ 255 ∷ 0 ∷ []) ∷ Format host_format ∷ [])).held 0 0 ≡ None
 format_makes_unknown = refl
+
+-- ---- copies of the host in front
+
+-- A copy of 4 by 5 from 258, 7 to 2, 3, alone.
+abbrev copy_from_258 : List ℕ
+copy_from_258 = 0 ∷ 2 ∷ 0 ∷ 3 ∷ 0 ∷ 4 ∷ 0 ∷ 5 ∷ 0 ∷ 0 ∷ 0 ∷ 1 ∷ 1 ∷ 2 ∷ 0 ∷ 7 ∷ []
+
+pub copy_alone : answer_bytes (of_rows bgr233 with_copies) red (Copy (rect 2 3 4 5) 258 7 ∷ []) true [] ≡ (0 ∷ 0 ∷ 0 ∷ 1 ∷ []) ++ copy_from_258
+copy_alone = refl
+
+-- It stands in front of a rectangle, and is counted with it.
+pub copy_in_front : answer_bytes (of_rows bgr233 with_copies) red (Copy (rect 2 3 4 5) 258 7 ∷ []) true (rect 0 0 1 1 ∷ []) ≡ (0 ∷ 0 ∷ 0 ∷ 2 ∷ []) ++ copy_from_258 ++ raw_head 0 ++ 7 ∷ []
+copy_in_front = refl
 
 -- ---- in the encoding that was chosen
 
@@ -99,27 +112,28 @@ one_rectangle w h encoding data_bytes = 0 ∷ 0 ∷ 0 ∷ 1 ∷ 0 ∷ 0 ∷ 0 �
 abbrev red_then_blue : Canvas
 red_then_blue x y = if x == 0 then 0xFF0000 else 0x0000FF
 
-pub in_rre : answer_bytes (of_rows host_format (chosen Rre)) red_then_blue false (rect 0 0 8 1 ∷ []) ≡ one_rectangle 8 1 2 ((0 ∷ 0 ∷ 0 ∷ 1 ∷ []) ++ red_pixel ++ blue_pixel ++ 0 ∷ 1 ∷ 0 ∷ 0 ∷ 0 ∷ 7 ∷ 0 ∷ 1 ∷ [])
+pub in_rre : answer_bytes (of_rows host_format (chosen Rre)) red_then_blue [] false (rect 0 0 8 1 ∷ []) ≡ one_rectangle 8 1 2 ((0 ∷ 0 ∷ 0 ∷ 1 ∷ []) ++ red_pixel ++ blue_pixel ++ 0 ∷ 1 ∷ 0 ∷ 0 ∷ 0 ∷ 7 ∷ 0 ∷ 1 ∷ [])
 in_rre = refl
 
-pub in_hextile : answer_bytes (of_rows host_format (chosen Hextile)) red_then_blue false (rect 0 0 8 1 ∷ []) ≡ one_rectangle 8 1 5 ((0x0E ∷ []) ++ red_pixel ++ blue_pixel ++ 1 ∷ 0x10 ∷ 0x60 ∷ [])
+pub in_hextile : answer_bytes (of_rows host_format (chosen Hextile)) red_then_blue [] false (rect 0 0 8 1 ∷ []) ≡ one_rectangle 8 1 5 ((0x0E ∷ []) ++ red_pixel ++ blue_pixel ++ 1 ∷ 0x10 ∷ 0x60 ∷ [])
 in_hextile = refl
 
--- With joined runs, over two rows: in RRE one run of blue that is two rows high, over red; in Hextile one of red over blue.
-pub in_joined_rre : answer_bytes (of_joined host_format (chosen Rre)) red_then_blue false (rect 0 0 8 2 ∷ []) ≡ one_rectangle 8 2 2 ((0 ∷ 0 ∷ 0 ∷ 1 ∷ []) ++ red_pixel ++ blue_pixel ++ 0 ∷ 1 ∷ 0 ∷ 0 ∷ 0 ∷ 7 ∷ 0 ∷ 2 ∷ [])
+-- With joined runs, over two rows: in RRE one run of blue that is two rows high, over red; in Hextile one of red over
+-- blue.
+pub in_joined_rre : answer_bytes (of_joined host_format (chosen Rre)) red_then_blue [] false (rect 0 0 8 2 ∷ []) ≡ one_rectangle 8 2 2 ((0 ∷ 0 ∷ 0 ∷ 1 ∷ []) ++ red_pixel ++ blue_pixel ++ 0 ∷ 1 ∷ 0 ∷ 0 ∷ 0 ∷ 7 ∷ 0 ∷ 2 ∷ [])
 in_joined_rre = refl
 
-pub in_joined_hextile : answer_bytes (of_joined host_format (chosen Hextile)) red_then_blue false (rect 0 0 8 2 ∷ []) ≡ one_rectangle 8 2 5 ((0x0E ∷ []) ++ blue_pixel ++ red_pixel ++ 1 ∷ 0x00 ∷ 0x01 ∷ [])
+pub in_joined_hextile : answer_bytes (of_joined host_format (chosen Hextile)) red_then_blue [] false (rect 0 0 8 2 ∷ []) ≡ one_rectangle 8 2 5 ((0x0E ∷ []) ++ blue_pixel ++ red_pixel ++ 1 ∷ 0x00 ∷ 0x01 ∷ [])
 in_joined_hextile = refl
 
-pub two_hextile_tiles : answer_bytes (of_rows host_format (chosen Hextile)) red false (rect 0 0 17 1 ∷ []) ≡ one_rectangle 17 1 5 ((2 ∷ []) ++ red_pixel ++ 0 ∷ [])
+pub two_hextile_tiles : answer_bytes (of_rows host_format (chosen Hextile)) red [] false (rect 0 0 17 1 ∷ []) ≡ one_rectangle 17 1 5 ((2 ∷ []) ++ red_pixel ++ 0 ∷ [])
 two_hextile_tiles = refl
 
 -- Where it has no fewer bytes the rectangle is Raw: 20 in RRE against 12, and 5 in Hextile against 4.
-pub rre_would_be_longer : answer_bytes (of_rows host_format (chosen Rre)) red_then_blue false (rect 0 0 3 1 ∷ []) ≡ one_rectangle 3 1 0 (red_pixel ++ blue_pixel ++ blue_pixel)
+pub rre_would_be_longer : answer_bytes (of_rows host_format (chosen Rre)) red_then_blue [] false (rect 0 0 3 1 ∷ []) ≡ one_rectangle 3 1 0 (red_pixel ++ blue_pixel ++ blue_pixel)
 rre_would_be_longer = refl
 
-pub hextile_would_be_longer : answer_bytes (of_rows host_format (chosen Hextile)) red false (rect 0 0 1 1 ∷ []) ≡ one_rectangle 1 1 0 red_pixel
+pub hextile_would_be_longer : answer_bytes (of_rows host_format (chosen Hextile)) red [] false (rect 0 0 1 1 ∷ []) ≡ one_rectangle 1 1 0 red_pixel
 hextile_would_be_longer = refl
 
 -- Each run by itself: on black, blue at the columns 0 and 32, the first run in RRE and the second Raw.
@@ -131,11 +145,11 @@ rre_and_raw =
     (0 ∷ 0 ∷ 0 ∷ 2 ∷ []) ++ (0 ∷ 0 ∷ 0 ∷ 0 ∷ 0 ∷ 16 ∷ 0 ∷ 1 ∷ 0 ∷ 0 ∷ 0 ∷ 2 ∷ []) ++ (0 ∷ 0 ∷ 0 ∷ 1 ∷ []) ++ blue_pixel ++ black_pixel ++ (0 ∷ 1 ∷ 0 ∷ 0 ∷ 0 ∷ 15 ∷ 0 ∷ 1 ∷ [])
     ++ (0 ∷ 32 ∷ 0 ∷ 0 ∷ 0 ∷ 1 ∷ 0 ∷ 1 ∷ 0 ∷ 0 ∷ 0 ∷ 0 ∷ []) ++ blue_pixel
 
-pub each_run_by_itself : answer_bytes (of_rows host_format (chosen Rre)) two_blues true (rect 0 0 16 1 ∷ rect 32 0 1 1 ∷ []) ≡ rre_and_raw
+pub each_run_by_itself : answer_bytes (of_rows host_format (chosen Rre)) two_blues [] true (rect 0 0 16 1 ∷ rect 32 0 1 1 ∷ []) ≡ rre_and_raw
 each_run_by_itself = refl
 
 -- Two rows of tiles of a screen of 17 by 17.
-pub two_rows_of_tiles : answer_bytes (of_rows host_format (chosen Rre)) (λ x y. 0) false (rect 0 0 17 16 ∷ rect 0 16 17 1 ∷ [])
+pub two_rows_of_tiles : answer_bytes (of_rows host_format (chosen Rre)) (λ x y. 0) [] false (rect 0 0 17 16 ∷ rect 0 16 17 1 ∷ [])
     ≡ (0 ∷ 0 ∷ 0 ∷ 2 ∷ []) ++ (0 ∷ 0 ∷ 0 ∷ 0 ∷ 0 ∷ 17 ∷ 0 ∷ 16 ∷ 0 ∷ 0 ∷ 0 ∷ 2 ∷ 0 ∷ 0 ∷ 0 ∷ 0 ∷ []) ++ black_pixel
     ++ (0 ∷ 0 ∷ 0 ∷ 16 ∷ 0 ∷ 17 ∷ 0 ∷ 1 ∷ 0 ∷ 0 ∷ 0 ∷ 2 ∷ 0 ∷ 0 ∷ 0 ∷ 0 ∷ []) ++ black_pixel
 two_rows_of_tiles = refl
@@ -146,7 +160,7 @@ copied_below =
     (0 ∷ 0 ∷ 0 ∷ 2 ∷ []) ++ (0 ∷ 0 ∷ 0 ∷ 0 ∷ 0 ∷ 16 ∷ 0 ∷ 16 ∷ 0 ∷ 0 ∷ 0 ∷ 2 ∷ 0 ∷ 0 ∷ 0 ∷ 0 ∷ []) ++ red_pixel
     ++ 0 ∷ 0 ∷ 0 ∷ 16 ∷ 0 ∷ 16 ∷ 0 ∷ 16 ∷ 0 ∷ 0 ∷ 0 ∷ 1 ∷ 0 ∷ 0 ∷ 0 ∷ 0 ∷ []
 
-pub copied_before_rre : answer_bytes (of_rows host_format (record { kind = Rre; copy = true; resizes = false; zrle = false })) red true (rect 0 0 16 16 ∷ rect 0 16 16 16 ∷ []) ≡ copied_below
+pub copied_before_rre : answer_bytes (of_rows host_format (record { kind = Rre; copy = true; resizes = false; zrle = false })) red [] true (rect 0 0 16 16 ∷ rect 0 16 16 16 ∷ []) ≡ copied_below
 copied_before_rre = refl
 
 -- ---- what a follower holds

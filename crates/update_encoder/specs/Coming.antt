@@ -1,12 +1,14 @@
 -- An answer that is written one rectangle at a time.
-use Rattle.std.specs.Prelude.{◌≡◌, ℕ, Bool, List, ◌∷◌, ◌++◌, Option}
+use Rattle.std.specs.Prelude.{◌≡◌, ℕ, ◌+◌, Bool, List, ◌∷◌, ◌++◌, length, Option}
 use Rattle.std.specs.List.{flat_map}
 use Rattle.raster.specs.declared.rect.Rect.{Rect}
 use Rattle.raster.specs.Screen.{Canvas, value_at}
+use Rattle.raster.specs.Update.{Paint}
+use Rattle.rfb_wire.specs.Writing.{update_head_bytes}
 use Rattle.tiles.specs.Walk.{Walking, runs_left}
 use Rattle.reflect_core.specs.declared.cut.Cut.{Cut}
 use Rattle.reflect_core.specs.Source.{marked}
-use Rattle.update_encoder.specs.Answer.{spelled, all_spelled}
+use Rattle.update_encoder.specs.Answer.{all_spelled, copy_bytes, spelled}
 use Rattle.update_encoder.specs.Style.{Style}
 
 -- What is kept of an answer: where the walk over its runs stands, its style, whether it may use CopyRect, the rectangle
@@ -21,6 +23,11 @@ pub record Answering : Type 0 where
 -- What a cut shows (own).
 abbrev pub shown : Cut → Canvas
 shown cut = value_at cut.width cut.colours.items
+
+-- What comes before the rectangles of an answer: its header, which counts the copies that are passed on and the
+-- rectangles, and the copies (RFC 6143, 7.6.1 and 7.7.2).
+abbrev pub front_bytes : (copies : List Paint) → (count : ℕ) → List ℕ
+front_bytes copies count = update_head_bytes (length copies + count) ++ flat_map copy_bytes copies
 
 -- It is an answer from a cut of this size (own).
 pub record AnswerStands (answer : Answering) (cut : Cut) : Type 0 where

@@ -25,19 +25,19 @@ use reflect_core::Cut;
 use rfb_wire::{RECTANGLE_HEAD_LEN, write_rectangle_head};
 
 /// Writes a CopyRect: a header, and the source's top left (RFC 6143, 7.7.2).
-fn write_copy(area: &Rect, above: &Rect, out: &mut [u8]) -> usize
+pub(crate) fn write_copy(area: &Rect, source: &Rect, out: &mut [u8]) -> usize
     requires room { 16 ≤ length out.old }
-    requires above { IsWithin above.now 4096 4096 }
+    requires source { IsWithin source.now 4096 4096 }
     requires within { IsWithin area.now 4096 4096 }
-    ensures written { IsFront (rectangle_bytes area.now 1 (copy_source (Some above.now)))
+    ensures written { IsFront (rectangle_bytes area.now 1 (copy_source (Some source.now)))
         out.new result }
     ensures len { result ≡ 16 }
 {
-    let (head, source) = out.split_at_mut(RECTANGLE_HEAD_LEN);
+    let (head, data) = out.split_at_mut(RECTANGLE_HEAD_LEN);
     write_rectangle_head(area, COPY_RECT, head);
-    let [x1, x0] = (above.x as u16).to_be_bytes();
-    let [y1, y0] = (above.y as u16).to_be_bytes();
-    let (place, _) = source.split_at_mut(4);
+    let [x1, x0] = (source.x as u16).to_be_bytes();
+    let [y1, y0] = (source.y as u16).to_be_bytes();
+    let (place, _) = data.split_at_mut(4);
     place.copy_from_slice(&[x1, x0, y1, y0]);
     RECTANGLE_HEAD_LEN + 4
 }
