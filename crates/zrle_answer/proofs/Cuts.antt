@@ -1,19 +1,20 @@
 -- An answer of a cut is one of the screen that was cut.
-use Rattle.std.proofs.Common.{◌≡◌, ℕ, suc, ◌<◌, Bool, true, false, List, [], ◌∷◌, take, refl, sym, ap, ◌∙◌, arith, inl, inr}
-use Rattle.std.specs.Prelude.{◌&&◌, unwrap_or, Option}
+use Rattle.std.proofs.Common.{◌≡◌, ℕ, suc, ◌<◌, Bool, true, false, List, [], ◌∷◌, take, refl, sym, ◌∙◌, arith, inl, inr}
+use Rattle.std.specs.Prelude.{◌&&◌, Option}
 use Rattle.std.specs.List.{All}
 use Rattle.std.proofs.lemmas.Bool.{and_parts, or_cases}
 use Rattle.raster.specs.declared.rect.Rect.{Rect}
-use Rattle.raster.specs.Screen.{holds, meets, tile_count, tile_rect}
+use Rattle.raster.specs.Screen.{holds, tile_count, tile_rect}
 use Rattle.raster.specs.Update.{Update, screen}
 use Rattle.raster.proofs.Places.{Has, has_holds, holds_has, meets_at, tile_of, tile_of_has, tile_of_there}
 use Rattle.reflect_core.specs.declared.cut.Cut.{Cut}
-use Rattle.reflect_core.specs.Source.{IsCutOf, due_in, marked}
+use Rattle.reflect_core.specs.Source.{IsCutOf, copies_in, marked}
 use Rattle.tiles.specs.Brings.{BringTheDue, IsPart, some_holds}
 use Rattle.tiles.specs.Have.{SentTiles}
 use Rattle.update_encoder.specs.Coming.{shown}
 use Rattle.update_encoder.specs.Style.{Style}
-use Rattle.update_encoder.specs.Written.{is_due_of}
+use Rattle.update_encoder.specs.Written.{is_still_due_of}
+use Rattle.update_encoder.proofs.StillDue.{due_where_met, shown_as_it_was}
 use Rattle.zrle_answer.specs.Written.{CutsAreAnswered, IsWhole, IsWholeOf, with_zrle}
 use Rattle.zrle_answer.proofs.LookAlike.{answers_show_what_looks_alike}
 
@@ -29,7 +30,7 @@ some_inside w h (r ∷ rs) x y parts e =
       | inr there ↦ some_inside w h rs x y (λ k d lt. parts (suc k) d (omega (arith, lt))) there
     ]
 
-module _ (us : List Update) (n : ℕ) (area : Rect) (have : SentTiles) (cut : Cut) (is : IsCutOf us n area have cut) (wide : have.width ≡ cut.width) (high : have.height ≡ cut.height) where
+module _ (us : List Update) (n : ℕ) (area : Rect) (have : SentTiles) (since : Option ℕ) (cut : Cut) (is : IsCutOf us n area have since cut) (wide : have.width ≡ cut.width) (high : have.height ≡ cut.height) where
   abbrev w : ℕ
   w = cut.width
 
@@ -39,20 +40,14 @@ module _ (us : List Update) (n : ℕ) (area : Rect) (have : SentTiles) (cut : Cu
   abbrev seen : List Update
   seen = take n us
 
-  rect_is : (t : ℕ) → tile_rect have.width have.height t ≡ tile_rect w h t
-  rect_is t = ap (λ a. tile_rect a have.height t) wide ∙ ap (λ a. tile_rect w a t) high
+  -- what was still due
+  abbrev still : ℕ → Bool
+  still t = is_still_due_of have area since seen t
 
-  count_is : tile_count have.width have.height ≡ tile_count w h
-  count_is = ap (λ a. tile_count a have.height) wide ∙ ap (λ a. tile_count w a) high
-
-  marked_is : (t : ℕ) → t < tile_count w h → marked cut t ≡ due_in have area seen t
-  marked_is t lt = ap (λ (o : Option Bool). unwrap_or o false) (is.due t (omega (arith, count_is, lt)))
-
-  -- Where a tile meets the area, it is marked as it was due.
-  due_alike : (t x y : ℕ) → t < tile_count w h → holds (tile_rect w h t) x y ≡ true → (b : Bool) → holds area x y ≡ b → (b && marked cut t) ≡ (b && is_due_of have seen t)
+  -- At a position of the area a tile is marked as it was due.
+  due_alike : (t x y : ℕ) → t < tile_count w h → holds (tile_rect w h t) x y ≡ true → (b : Bool) → holds area x y ≡ b → (b && marked cut t) ≡ (b && still t)
   due_alike t x y lt tile true e =
-      let met : meets area (tile_rect w h t) ≡ true = meets_at area (tile_rect w h t) x y (has_holds area x y e) (has_holds (tile_rect w h t) x y tile) in
-      marked_is t lt ∙ (ap (λ (r : Rect). meets area r && is_due_of have seen t) (rect_is t) ∙ ap (λ b. b && is_due_of have seen t) met)
+      due_where_met us n area have since cut is wide high t lt (meets_at area (tile_rect w h t) x y (has_holds area x y e) (has_holds (tile_rect w h t) x y tile))
   due_alike t x y lt tile false e = refl
 
   shows_alike : (rs : List Rect) → BringTheDue w h area (marked cut) rs → (x y : ℕ) → some_holds rs x y ≡ true → shown cut x y ≡ screen seen x y
@@ -62,9 +57,9 @@ module _ (us : List Update) (n : ℕ) (area : Rect) (have : SentTiles) (cut : Cu
       let there : t < tile_count w h = tile_of_there w h x y inside.0 inside.1 in
       let tile : holds (tile_rect w h t) x y ≡ true = holds_has (tile_rect w h t) x y (tile_of_has w h x y inside.0 inside.1) in
       let both = and_parts (holds area x y) (marked cut t) (sym (brings.exactly t x y there tile) ∙ e) in
-      is.colours t x y (omega (arith, count_is, there)) (sym (marked_is t there) ∙ both.1) both.0 (ap (λ (r : Rect). holds r x y) (rect_is t) ∙ tile)
+      shown_as_it_was us n area have since cut is wide high t x y there tile both.0 both.1
 
-  pub answered : (style : Style) (begun now : Bool) (bytes : List ℕ) → IsWholeOf style cut area begun now bytes → IsWhole style w h area (screen seen) (is_due_of have seen) cut.all_were_sent begun now bytes
+  pub answered : (style : Style) (begun now : Bool) (bytes : List ℕ) → IsWholeOf style cut area begun now bytes → IsWhole style w h area (screen seen) (copies_in cut) (is_still_due_of have area since seen) cut.all_were_sent begun now bytes
   answered style begun now bytes whole =
       record {
         rectangles = whole.rectangles;
@@ -76,10 +71,10 @@ module _ (us : List Update) (n : ℕ) (area : Rect) (have : SentTiles) (cut : Cu
         answers = λ before e.
             (let a = whole.answers before e in (
               a.0,
-              answers_show_what_looks_alike (with_zrle style) (shown cut) (screen seen) cut.all_were_sent whole.rectangles before a.0 bytes (shows_alike whole.rectangles whole.brings) a.1,
+              answers_show_what_looks_alike (with_zrle style) (shown cut) (screen seen) (copies_in cut) cut.all_were_sent whole.rectangles before a.0 bytes (shows_alike whole.rectangles whole.brings) a.1,
               a.2,
             ));
       }
 
 pub cuts_are_answered : CutsAreAnswered
-cuts_are_answered us n area have cut style begun now bytes is wide high size on whole = answered us n area have cut is wide high style begun now bytes whole
+cuts_are_answered us n area have since cut style begun now bytes is wide high size on whole = answered us n area have since cut is wide high style begun now bytes whole

@@ -1,7 +1,8 @@
 -- Each rectangle of an answer is read as what the screen shows in it. So a viewer that follows the answer holds that.
-use Rattle.std.proofs.Common.{◌≡◌, ℕ, suc, ◌≤◌, ◌/◌, ◌%◌, ◌*◌, Bool, true, false, cond, List, [], ◌∷◌, ◌++◌, ◌∙◌, length, map, Option, Some, None, refl, sym, ap, subst, arith, inl, inr}
+use Rattle.std.proofs.Common.{◌≡◌, ℕ, suc, ◌+◌, ◌≤◌, ◌/◌, ◌%◌, ◌*◌, Bool, true, false, cond, List, [], ◌∷◌, ◌++◌, ◌∙◌, length, map, Option, Some, None, refl, sym, ap, subst, arith, inl, inr}
+use Rattle.std.proofs.lemmas.List.{append_assoc}
 use Rattle.std.specs.Prelude.{◌&&◌, ◌||◌}
-use Rattle.std.specs.List.{All, range_with_len}
+use Rattle.std.specs.List.{All, flat_map, range_with_len}
 use Rattle.pixel_format.specs.PixelFormat.{PixelFormat, IsAccepted, tint}
 use Rattle.byte_reading.specs.Reading.{Spells}
 use Rattle.raster.specs.declared.rect.Rect.{Rect}
@@ -21,10 +22,10 @@ use Rattle.rfb_wire.specs.Writing.{rectangle_bytes, update_head_bytes}
 use Rattle.rfb_wire.proofs.Updates.{spelled_is_read, copy_is_read}
 use Rattle.tiles.specs.Brings.{IsPart, some_holds}
 use Rattle.tiles.proofs.RunLaws.{InSome}
-use Rattle.update_encoder.specs.Answer.{pixels_in, repeats, repeats_one, copy_source, spelled}
+use Rattle.update_encoder.specs.Answer.{AreCopiesOn, copy_bytes, pixels_in, repeats, repeats_one, copy_source, spelled}
 use Rattle.update_encoder.specs.Follower.{after_rectangle, after_rectangles}
 use Rattle.update_encoder.specs.Style.{Style}
-use Rattle.update_encoder.proofs.AnswerLaws.{IsRight, IsRightIn, Repeats, brought, copied, paint_brings, paint_keeps, pixels_are_values, repeats_is}
+use Rattle.update_encoder.proofs.AnswerLaws.{IsRight, IsRightIn, Repeats, after_both, brought, copied, copy_of_host_is_read, paint_brings, paint_keeps, pixels_are_values, repeats_is}
 use Rattle.zrle_codec.specs.Reading.{inflated, zlib_head}
 use Rattle.zrle_codec.specs.OneThing.{PartsAreRead}
 use Rattle.zrle_answer.specs.Rectangle.{ZlibStream, zrle_rectangle_bytes}
@@ -157,6 +158,22 @@ are_read parts w h ok lw lh k each (none style canvas copy above stream) =
 are_read parts w h ok lw lh k each (one_more style canvas copy above r rs before between after first others spells more) =
     one_and style.plain.format w h canvas above r rs before between after first others (one_is_read parts w h ok lw lh k each.0 spells) (are_read parts w h ok lw lh each.0 each.1 more)
 
+-- ---- the copies in front
+
+-- Each copy is read as itself, and leaves the stream as it is. So are copies in front of rectangles that are read.
+copies_then : (format : PixelFormat) (w h count : ℕ) (copies : List Paint) (before : ZlibStream) (others : List ℕ) (paints : List Paint) (after : ZlibStream) → w ≤ 4096 → h ≤ 4096 → AreCopiesOn w h copies
+    → ReadsRectangles format w h count before others paints after → ReadsRectangles format w h (length copies + count) before (flat_map copy_bytes copies ++ others) (copies ++ paints) after
+copies_then format w h count [] before others paints after lw lh on reads =
+    let counted : count ≡ 0 + count = omega arith in
+    subst (λ n. ReadsRectangles format w h n before others paints after) counted reads
+copies_then format w h count (p ∷ ps) before others paints after lw lh on reads =
+    let more = copies_then format w h count ps before others paints after lw lh (λ k d lt. on (suc k) d (omega (arith, lt))) reads in
+    let counted : suc (length ps + count) ≡ suc (length ps) + count = omega arith in
+    subst (λ n. ReadsRectangles format w h n before ((copy_bytes p ++ flat_map copy_bytes ps) ++ others) (p ∷ (ps ++ paints)) after) counted
+    (subst (λ t. ReadsRectangles format w h (suc (length ps + count)) before t (p ∷ (ps ++ paints)) after) (sym (append_assoc (copy_bytes p) (flat_map copy_bytes ps) others))
+    (one_rectangle_more format w h (length ps + count) before before after (copy_bytes p) (flat_map copy_bytes ps ++ others) p (ps ++ paints)
+    (in_another format w h before (copy_bytes p) p (copy_of_host_is_read format w h p lw lh (on 0 p (omega arith)))) more))
+
 -- ---- an answer
 
 each_of_all : {A : Type 0} (P : A → Type 0) (xs : List A) → All P xs → Each P xs
@@ -172,25 +189,30 @@ in_some [] x y e = absurd cc
 in_some (r ∷ rs) x y e = in_some_if r rs x y (holds r x y) refl e (in_some rs x y)
 
 pub answers_are_followed : PartsAreRead → AnswersAreFollowed
-answers_are_followed parts w h style canvas sent rs before bytes stream lw lh ok each few same is =
-    let held : Map (Option ℕ) = before.known.held in
+answers_are_followed parts w h style canvas copies sent rs before bytes stream lw lh ok on each few same is =
+    let held : Map (Option ℕ) = after_rectangles before.known.held copies in
+    let count : ℕ = length copies + length rs in
     let all = are_read parts w h ok lw lh tt (each_of_all (IsPart w h) rs each) is.spelled_so in
     let here : (m : Map (Option ℕ)) (x y : ℕ) → IsRight style.plain.format canvas m x y → IsRight before.known.format canvas m x y = λ m x y p. p ∙ ap (λ f. Some (tint f (canvas x y))) (sym same) in
     let there : (m : Map (Option ℕ)) (x y : ℕ) → IsRight before.known.format canvas m x y → IsRight style.plain.format canvas m x y = λ m x y p. p ∙ ap (λ f. Some (tint f (canvas x y))) same in
-    let reads : ReadsUpdate style.plain.format w h before.stream bytes all.paints stream = record {
-      count = length rs;
-      head = update_head_bytes (length rs);
-      others = is.others;
-      begins = is.are;
-      counts = head_is_read (length rs) few;
-      rectangles = all.reads;
-    } in (
-      after_update before all.paints stream,
-      record { paints = all.paints; stream = stream; reads = subst (λ f. ReadsUpdate f w h before.stream bytes all.paints stream) (sym same) reads; leaves = refl },
+    let paints : List Paint = copies ++ all.paints in
+    let reads : ReadsUpdate style.plain.format w h before.stream bytes paints stream = record {
+      count = count;
+      head = update_head_bytes count;
+      others = flat_map copy_bytes copies ++ is.others;
+      begins = is.are ∙ append_assoc (update_head_bytes count) (flat_map copy_bytes copies) is.others;
+      counts = head_is_read count few;
+      rectangles = copies_then style.plain.format w h (length rs) copies before.stream is.others all.paints stream lw lh on all.reads;
+    } in
+    let end : after_rectangles held all.paints ≡ after_rectangles before.known.held paints = sym (after_both before.known.held copies all.paints) in
+    let so : (x y : ℕ) → IsRight style.plain.format canvas (after_rectangles held all.paints) x y → IsRight before.known.format canvas (after_rectangles before.known.held paints) x y =
+    λ x y p. subst (λ (m : Map (Option ℕ)). IsRight before.known.format canvas m x y) end (here (after_rectangles held all.paints) x y p) in (
+      after_update before paints stream,
+      record { paints = paints; stream = stream; reads = subst (λ f. ReadsUpdate f w h before.stream bytes paints stream) (sym same) reads; leaves = refl },
       record {
         same_format = refl;
         stream_is = refl;
-        brings = λ x y i. here (after_rectangles held all.paints) x y (all.brings held tt x y (in_some rs x y i));
-        keeps = λ x y p. here (after_rectangles held all.paints) x y (all.keeps held tt x y (there held x y p));
+        brings = λ x y i. so x y (all.brings held tt x y (in_some rs x y i));
+        keeps = λ x y p. so x y (all.keeps held tt x y (there held x y p));
       },
     )

@@ -94,5 +94,5 @@ each_alike a b (r ∷ rs) same =
     (λ x y p. same x y (or_left (holds r x y) (some_holds rs x y) (holds_has r x y p)), each_alike a b rs (λ x y e. same x y (or_right (holds r x y) (some_holds rs x y) e)))
 
 pub answers_show_what_looks_alike : AnswersShowWhatLooksAlike
-answers_show_what_looks_alike style canvas known sent rs before after bytes same is =
+answers_show_what_looks_alike style canvas known copies sent rs before after bytes same is =
     record { others = is.others; are = is.are; spelled_so = all_alike known tt (each_alike canvas known rs same) is.spelled_so }

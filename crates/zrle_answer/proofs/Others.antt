@@ -3,9 +3,10 @@ use Rattle.std.proofs.Common.{◌≡◌, ℕ, Bool, true, false, List, [], ◌�
 use Rattle.std.specs.Prelude.{◌&&◌}
 use Rattle.raster.specs.declared.rect.Rect.{Rect}
 use Rattle.raster.specs.Screen.{Canvas}
-use Rattle.rfb_wire.specs.Writing.{update_head_bytes}
-use Rattle.update_encoder.specs.Answer.{answer_bytes, spelled}
-use Rattle.update_encoder.proofs.Counts.{bytes_of, count_spelled}
+use Rattle.raster.specs.Update.{Paint}
+use Rattle.update_encoder.specs.Answer.{all_spelled, answer_bytes, spelled}
+use Rattle.update_encoder.specs.Coming.{front_bytes}
+use Rattle.update_encoder.proofs.Counts.{bytes_of, count_spelled, front_is}
 use Rattle.zrle_answer.specs.Rectangle.{ZlibStream}
 use Rattle.zrle_answer.specs.Answer.{ZrleStyle, IsSpelled, AreSpelled}
 use Rattle.zrle_answer.specs.Answer.IsSpelled.{without, compressed}
@@ -18,13 +19,21 @@ without_all style canvas copy above (r ∷ rs) stream =
     one_more style canvas copy above r rs stream stream stream (spelled style.plain canvas copy above r) (bytes_of style.plain canvas copy (Some r) rs) (without style canvas copy above r stream)
     (without_all style canvas copy (Some r) rs stream)
 
+-- The front, with the number of rectangles, and these are the answer.
+front_then : (style : ZrleStyle) (canvas : Canvas) (copies : List Paint) (sent : Bool) (rs : List Rect)
+    → front_bytes copies (length rs) ++ bytes_of style.plain canvas (style.plain.choice.copy && sent) None rs ≡ answer_bytes style.plain canvas copies sent rs
+front_then style canvas copies sent rs =
+    let copy : Bool = style.plain.choice.copy && sent in
+    ap (λ n. front_bytes copies n ++ bytes_of style.plain canvas copy None rs) (sym (count_spelled style.plain canvas copy None rs))
+    ∙ front_is copies (all_spelled style.plain canvas copy None rs)
+
 pub other_answers_are_answers : OtherAnswersAreAnswers
-other_answers_are_answers style canvas sent rs stream =
+other_answers_are_answers style canvas copies sent rs stream =
     let copy : Bool = style.plain.choice.copy && sent in
     let others : List ℕ = bytes_of style.plain canvas copy None rs in
     record {
       others = others;
-      are = ap (λ n. update_head_bytes n ++ others) (count_spelled style.plain canvas copy None rs);
+      are = sym (front_then style canvas copies sent rs);
       spelled_so = without_all style canvas copy None rs stream;
     }
 
@@ -51,9 +60,6 @@ all_other none_of_it (one_more style canvas copy above r rs before between after
     }
 
 pub zrle_is_used_by_leave_alone : ZrleIsUsedByLeaveAlone
-zrle_is_used_by_leave_alone style canvas sent rs before after bytes none_of_it is =
-    let copy : Bool = style.plain.choice.copy && sent in
+zrle_is_used_by_leave_alone style canvas copies sent rs before after bytes none_of_it is =
     let all = all_other none_of_it is.spelled_so in
-    let head : update_head_bytes (length rs) ++ bytes_of style.plain canvas copy None rs ≡ answer_bytes style.plain canvas sent rs =
-    ap (λ n. update_head_bytes n ++ bytes_of style.plain canvas copy None rs) (sym (count_spelled style.plain canvas copy None rs)) in
-    (is.are ∙ (ap (λ t. update_head_bytes (length rs) ++ t) all.same ∙ head), all.stays)
+    (is.are ∙ (ap (λ t. front_bytes copies (length rs) ++ t) all.same ∙ front_then style canvas copies sent rs), all.stays)

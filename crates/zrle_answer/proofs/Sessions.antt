@@ -34,9 +34,9 @@ led parts before lw lh f s (says w h format from stream bytes message received i
       follows = one_more w h before next rest.after (Answer bytes) received (other_messages_are_followed_alike w h before bytes message here) rest.follows;
       stream_is = rest.stream_is;
     }
-led parts before lw lh f s (answers w h style canvas sent rectangles from between stream bytes received ok each few is more) =
-    let here : IsAnswer style canvas sent rectangles before.stream bytes between = subst (λ t. IsAnswer style canvas sent rectangles t bytes between) (sym s) is in
-    let found = answers_are_followed parts w h style canvas sent rectangles before bytes between lw lh ok each few f here in
+led parts before lw lh f s (answers w h style canvas copies sent rectangles from between stream bytes received ok on each few is more) =
+    let here : IsAnswer style canvas copies sent rectangles before.stream bytes between = subst (λ t. IsAnswer style canvas copies sent rectangles t bytes between) (sym s) is in
+    let found = answers_are_followed parts w h style canvas copies sent rectangles before bytes between lw lh ok on each few f here in
     let rest = led parts found.0 lw lh (found.2.same_format ∙ f) found.2.stream_is more in
     record { after = rest.after; follows = one_more w h before found.0 rest.after (Answer bytes) received (inl found.1) rest.follows; stream_is = rest.stream_is }
 

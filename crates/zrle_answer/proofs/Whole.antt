@@ -1,4 +1,5 @@
 -- Rectangles of an answer are written one behind another.
+use Rattle.std.specs.Prelude.{◌&&◌}
 use Rattle.std.proofs.Common.{◌≡◌, ℕ, ◌+◌, ◌*◌, ◌<◌, ◌≤◌, Bool, true, List, [], ◌∷◌, ◌++◌, ◌∙◌, length, take, drop, get_or, Option, Some, None, refl, sym, ap, subst, arith, add-one, false}
 use Rattle.std.specs.List.{All}
 use Rattle.std.proofs.lemmas.List.{append_assoc, append-nil, drop_all, get_or-map, length-map}
@@ -6,8 +7,10 @@ use Rattle.std.proofs.Math.Nat.{mul-pos}
 use Rattle.std.proofs.Math.Seq.{drop-cons, take-append_seam}
 use Rattle.raster.specs.declared.rect.Rect.{Rect}
 use Rattle.raster.specs.Screen.{Canvas}
-use Rattle.tiles.specs.Brings.{IsPart}
+use Rattle.raster.specs.Update.{Paint}
+use Rattle.tiles.specs.Brings.{BringTheDue, IsPart}
 use Rattle.update_encoder.specs.Answer.{spelled}
+use Rattle.update_encoder.specs.Coming.{front_bytes}
 use Rattle.update_encoder.specs.Style.{Style}
 use Rattle.zrle_answer.specs.Rectangle.{ZlibStream}
 use Rattle.zrle_answer.specs.Answer.{AreSpelled}
@@ -15,7 +18,7 @@ use Rattle.zrle_answer.specs.Answer.IsSpelled.{without}
 use Rattle.zrle_answer.specs.Answer.AreSpelled.{none, one_more}
 use Rattle.zrle_answer.specs.Planned.{areas_of}
 use Rattle.zrle_answer.specs.declared.plan.Planned.{Planned}
-use Rattle.zrle_answer.specs.Written.{AppendsAll, AppendsNext, AppendsRectangle, has_begun, with_zrle}
+use Rattle.zrle_answer.specs.Written.{AppendsAll, AppendsNext, AppendsRectangle, IsWhole, has_begun, with_zrle}
 
 -- ---- one rectangle
 
@@ -75,6 +78,22 @@ all_so_far style screen may_copy all left above begun now old new is before =
             led.0,
             subst (λ t. AreSpelled (with_zrle style) screen may_copy None all first t led.0) (append-nil so.bytes) (led.2 [] led.0 (none (with_zrle style) screen may_copy above led.0)),
             led.1,
+          ));
+    }
+
+-- All of them behind a front that counts them, where they bring what is due, are a whole answer.
+pub is_whole : (style : Style) (w h : ℕ) (area : Rect) (screen : Canvas) (copies : List Paint) (due : ℕ → Bool) (sent begun now : Bool) (rs : List Rect) (count : ℕ) (old new : List ℕ)
+    → BringTheDue w h area due rs → count ≡ length rs → old ≡ front_bytes copies count → AppendsAll style screen (style.choice.copy && sent) None rs begun now old new
+    → IsWhole style w h area screen copies due sent begun now new
+is_whole style w h area screen copies due sent begun now rs count old new brings counted front all =
+    record {
+      rectangles = rs;
+      brings = brings;
+      answers = λ before e.
+          (let led = all.spells before e in (
+            led.0,
+            record { others = all.bytes; are = all.appended ∙ ap (λ t. t ++ all.bytes) (front ∙ ap (front_bytes copies) counted); spelled_so = led.1 },
+            led.2,
           ));
     }
 

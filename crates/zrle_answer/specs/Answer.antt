@@ -3,8 +3,9 @@ use Rattle.std.specs.Prelude.{◌≡◌, ℕ, ◌^◌, ◌<◌, Bool, true, ◌&
 use Rattle.pixel_format.specs.PixelFormat.{PixelFormat, tint}
 use Rattle.raster.specs.declared.rect.Rect.{Rect}
 use Rattle.raster.specs.Screen.{Canvas, kept, part_of}
-use Rattle.rfb_wire.specs.Writing.{update_head_bytes}
+use Rattle.raster.specs.Update.{Paint}
 use Rattle.update_encoder.specs.Answer.{spelled}
+use Rattle.update_encoder.specs.Coming.{front_bytes}
 use Rattle.update_encoder.specs.Style.{Style}
 use Rattle.zrle_codec.specs.Areas.{IsZrle}
 use Rattle.zrle_codec.specs.Reading.{inflated, zlib_head}
@@ -36,9 +37,10 @@ pub data AreSpelled : (style : ZrleStyle) (screen : Canvas) (may_copy : Bool) (a
       → IsSpelled style screen may_copy above r before first between → AreSpelled style screen may_copy (Some r) rectangles between others after
       → AreSpelled style screen may_copy above (r ∷ rectangles) before (first ++ others) after
 
--- A FramebufferUpdate of these rectangles of the screen, which leads the stream from before to after. CopyRect is used
--- where the viewer takes it and each of their tiles was sent to it before.
-pub record IsAnswer (style : ZrleStyle) (screen : Canvas) (all_were_sent : Bool) (rectangles : List Rect) (before : ZlibStream) (bytes : List ℕ) (after : ZlibStream) : Type 0 where
+-- A FramebufferUpdate of copies of the host, and behind them of these rectangles of the screen, which leads the stream
+-- from before to after. For a rectangle CopyRect is used where the viewer takes it and each tile that was due was sent
+-- to it before.
+pub record IsAnswer (style : ZrleStyle) (screen : Canvas) (copies : List Paint) (all_were_sent : Bool) (rectangles : List Rect) (before : ZlibStream) (bytes : List ℕ) (after : ZlibStream) : Type 0 where
   pub others : List ℕ
-  pub are : bytes ≡ update_head_bytes (length rectangles) ++ others
+  pub are : bytes ≡ front_bytes copies (length rectangles) ++ others
   pub spelled_so : AreSpelled style screen (style.plain.choice.copy && all_were_sent) None rectangles before others after

@@ -7,7 +7,7 @@ use Rattle.raster.specs.Screen.{Canvas, IsWithin, common, tile_count, tile_rect}
 use Rattle.raster.specs.Update.{Paint, Put, Copy, Resized, Update, screen}
 use Rattle.rfb_wire.specs.ServerMessage.{ServerMessage}
 use Rattle.tiles.specs.Brings.{BringTheDue, IsPart, some_holds}
-use Rattle.update_encoder.specs.Answer.{answer_bytes}
+use Rattle.update_encoder.specs.Answer.{AreCopiesOn, answer_bytes}
 use Rattle.update_encoder.specs.Follower.{Received, Format, Answer, HoldsArea, follows, only_message}
 use Rattle.deflate.specs.Bits.{bits_of}
 use Rattle.deflate.specs.Inflates.{Inflates}
@@ -16,7 +16,7 @@ use Rattle.zrle_codec.specs.Reading.{ReadsZrle}
 use Rattle.zrle_answer.specs.Rectangle.{ZlibStream}
 use Rattle.zrle_answer.specs.Reading.{ReadsUpdate}
 use Rattle.zrle_answer.specs.Answer.{ZrleStyle, IsAnswer}
-use Rattle.zrle_answer.specs.Follower.{ZrleFollower, ReadsAnswer, Follows, FollowsAll}
+use Rattle.zrle_answer.specs.Follower.{ZrleFollower, ReadsAnswer, Follows, FollowsAll, after_update}
 
 -- ---- one thing alone
 
@@ -58,50 +58,57 @@ PaintsLieOnTheScreen =
 abbrev pub HoldsRight : ZrleFollower → Canvas → ℕ → ℕ → Type 0
 HoldsRight follower canvas x y = follower.known.held x y ≡ Some (tint follower.known.format (canvas x y))
 
--- From one state to another a follower came to hold what these rectangles show. What it held right, it holds so still.
--- Its format is the same, and its stream is in this state.
-pub record IsBrought (canvas : Canvas) (rectangles : List Rect) (before after : ZrleFollower) (stream : ZlibStream) : Type 0 where
+-- A follower once it has made these copies.
+abbrev pub after_copies : ZrleFollower → List Paint → ZrleFollower
+after_copies follower copies = after_update follower copies follower.stream
+
+-- From one state to another a follower came to hold what these rectangles show. What it held right once it had made
+-- some copies, it holds so still. Its format is the same, and its stream is in this state.
+pub record IsBrought (canvas : Canvas) (copies : List Paint) (rectangles : List Rect) (before after : ZrleFollower) (stream : ZlibStream) : Type 0 where
   pub same_format : after.known.format ≡ before.known.format
   pub stream_is : after.stream ≡ stream
   pub brings : (x y : ℕ) → some_holds rectangles x y ≡ true → HoldsRight after canvas x y
-  pub keeps : (x y : ℕ) → HoldsRight before canvas x y → HoldsRight after canvas x y
+  pub keeps : (x y : ℕ) → HoldsRight (after_copies before copies) canvas x y → HoldsRight after canvas x y
 
--- An answer in a follower's format, whose stream begins where the follower's stands, is read and brings its rectangles.
+-- An answer in a follower's format, whose stream begins where the follower's stands, is read, and brings its rectangles
+-- behind its copies.
 abbrev pub AnswersAreFollowed : Type 0
 AnswersAreFollowed =
-    (w h : ℕ) (style : ZrleStyle) (canvas : Canvas) (sent : Bool) (rectangles : List Rect) (before : ZrleFollower) (bytes : List ℕ) (stream : ZlibStream)
-    → w ≤ 4096 → h ≤ 4096 → IsAccepted style.plain.format → All (IsPart w h) rectangles → length rectangles < 2 ^ 16 → before.known.format ≡ style.plain.format
-    → IsAnswer style canvas sent rectangles before.stream bytes stream
-    → (after : ZrleFollower) × ReadsAnswer w h before bytes after × IsBrought canvas rectangles before after stream
+    (w h : ℕ) (style : ZrleStyle) (canvas : Canvas) (copies : List Paint) (sent : Bool) (rectangles : List Rect) (before : ZrleFollower) (bytes : List ℕ) (stream : ZlibStream)
+    → w ≤ 4096 → h ≤ 4096 → IsAccepted style.plain.format → AreCopiesOn w h copies → All (IsPart w h) rectangles → length copies + length rectangles < 2 ^ 16
+    → before.known.format ≡ style.plain.format → IsAnswer style canvas copies sent rectangles before.stream bytes stream
+    → (after : ZrleFollower) × ReadsAnswer w h before bytes after × IsBrought canvas copies rectangles before after stream
 
--- So a follower holds an area of the screen after an answer that brings its due tiles, where it held the others before.
+-- So a follower holds an area of the screen after an answer that brings its due tiles, where it held the others once it
+-- had made the answer's copies.
 abbrev pub AreasAreHeld : Type 0
 AreasAreHeld =
-    (w h : ℕ) (style : ZrleStyle) (us : List Update) (sent : Bool) (area : Rect) (due : ℕ → Bool) (rectangles : List Rect) (before after : ZrleFollower) (bytes : List ℕ) (stream : ZlibStream)
-    → w ≤ 4096 → h ≤ 4096 → IsAccepted style.plain.format → BringTheDue w h area due rectangles → area.x + area.w ≤ w → area.y + area.h ≤ h → before.known.format ≡ style.plain.format
-    → IsAnswer style (screen us) sent rectangles before.stream bytes stream
-    → ((t : ℕ) → t < tile_count w h → due t ≡ false → HoldsArea before.known (common area (tile_rect w h t)) us)
+    (w h : ℕ) (style : ZrleStyle) (us : List Update) (copies : List Paint) (sent : Bool) (area : Rect) (due : ℕ → Bool) (rectangles : List Rect) (before after : ZrleFollower) (bytes : List ℕ) (stream : ZlibStream)
+    → w ≤ 4096 → h ≤ 4096 → IsAccepted style.plain.format → AreCopiesOn w h copies → length copies < 2 ^ 15 → BringTheDue w h area due rectangles → area.x + area.w ≤ w → area.y + area.h ≤ h
+    → before.known.format ≡ style.plain.format → IsAnswer style (screen us) copies sent rectangles before.stream bytes stream
+    → ((t : ℕ) → t < tile_count w h → due t ≡ false → HoldsArea (after_copies before copies).known (common area (tile_rect w h t)) us)
     → Follows w h before (Answer bytes) after
     → HoldsArea after.known area us
 
 -- An answer of one screen, as of a cut, is one of each other that looks the same in its rectangles.
 abbrev pub AnswersShowWhatLooksAlike : Type 0
 AnswersShowWhatLooksAlike =
-    (style : ZrleStyle) (canvas other : Canvas) (sent : Bool) (rectangles : List Rect) (before after : ZlibStream) (bytes : List ℕ) → ((x y : ℕ) → some_holds rectangles x y ≡ true → canvas x y ≡ other x y)
-    → IsAnswer style canvas sent rectangles before bytes after → IsAnswer style other sent rectangles before bytes after
+    (style : ZrleStyle) (canvas other : Canvas) (copies : List Paint) (sent : Bool) (rectangles : List Rect) (before after : ZlibStream) (bytes : List ℕ) → ((x y : ℕ) → some_holds rectangles x y ≡ true → canvas x y ≡ other x y)
+    → IsAnswer style canvas copies sent rectangles before bytes after → IsAnswer style other copies sent rectangles before bytes after
 
 -- ---- answers without ZRLE
 
 -- They are answers, and leave the stream as it is.
 abbrev pub OtherAnswersAreAnswers : Type 0
 OtherAnswersAreAnswers =
-    (style : ZrleStyle) (canvas : Canvas) (sent : Bool) (rectangles : List Rect) (stream : ZlibStream) → IsAnswer style canvas sent rectangles stream (answer_bytes style.plain canvas sent rectangles) stream
+    (style : ZrleStyle) (canvas : Canvas) (copies : List Paint) (sent : Bool) (rectangles : List Rect) (stream : ZlibStream)
+    → IsAnswer style canvas copies sent rectangles stream (answer_bytes style.plain canvas copies sent rectangles) stream
 
 -- Where ZRLE may not be used there is no other answer, and the stream stays as it is.
 abbrev pub ZrleIsUsedByLeaveAlone : Type 0
 ZrleIsUsedByLeaveAlone =
-    (style : ZrleStyle) (canvas : Canvas) (sent : Bool) (rectangles : List Rect) (before after : ZlibStream) (bytes : List ℕ) → style.may_zrle ≡ false → IsAnswer style canvas sent rectangles before bytes after
-    → (bytes ≡ answer_bytes style.plain canvas sent rectangles) × (after ≡ before)
+    (style : ZrleStyle) (canvas : Canvas) (copies : List Paint) (sent : Bool) (rectangles : List Rect) (before after : ZlibStream) (bytes : List ℕ) → style.may_zrle ≡ false
+    → IsAnswer style canvas copies sent rectangles before bytes after → (bytes ≡ answer_bytes style.plain canvas copies sent rectangles) × (after ≡ before)
 
 -- A message without ZRLE is followed as it is by a follower that doesn't take ZRLE, and leaves the stream as it is.
 abbrev pub OtherMessagesAreFollowedAlike : Type 0
@@ -119,9 +126,9 @@ pub data AreSent : (w h : ℕ) (format : PixelFormat) (before : ZlibStream) (rec
   takes : (w h : ℕ) (format new : PixelFormat) (before after : ZlibStream) (received : List Received) → AreSent w h new before received after → AreSent w h format before (Format new ∷ received) after
   says : (w h : ℕ) (format : PixelFormat) (before after : ZlibStream) (bytes : List ℕ) (message : ServerMessage) (received : List Received)
       → only_message format w h bytes ≡ Some message → AreSent w h format before received after → AreSent w h format before (Answer bytes ∷ received) after
-  answers : (w h : ℕ) (style : ZrleStyle) (canvas : Canvas) (sent : Bool) (rectangles : List Rect) (before between after : ZlibStream) (bytes : List ℕ) (received : List Received)
-      → IsAccepted style.plain.format → All (IsPart w h) rectangles → length rectangles < 2 ^ 16
-      → IsAnswer style canvas sent rectangles before bytes between → AreSent w h style.plain.format between received after
+  answers : (w h : ℕ) (style : ZrleStyle) (canvas : Canvas) (copies : List Paint) (sent : Bool) (rectangles : List Rect) (before between after : ZlibStream) (bytes : List ℕ) (received : List Received)
+      → IsAccepted style.plain.format → AreCopiesOn w h copies → All (IsPart w h) rectangles → length copies + length rectangles < 2 ^ 16
+      → IsAnswer style canvas copies sent rectangles before bytes between → AreSent w h style.plain.format between received after
       → AreSent w h style.plain.format before (Answer bytes ∷ received) after
 
 -- All of it is followed, and the stream stands where the session leaves it.

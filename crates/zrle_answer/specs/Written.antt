@@ -4,11 +4,11 @@ use Rattle.pixel_format.specs.PixelFormat.{PixelFormat}
 use Rattle.raster.specs.declared.rect.Rect.{Rect}
 use Rattle.raster.specs.Screen.{Canvas, IsWithin}
 use Rattle.raster.specs.Size.{IsScreenSize}
-use Rattle.raster.specs.Update.{Update, screen}
+use Rattle.raster.specs.Update.{Paint, Update, screen}
 use Rattle.reflect_core.specs.declared.cut.Cut.{Cut}
-use Rattle.reflect_core.specs.Source.{IsCutOf, marked}
+use Rattle.reflect_core.specs.Source.{IsCutOf, copies_in, marked}
 use Rattle.tiles.specs.Have.{SentTiles}
-use Rattle.update_encoder.specs.Written.{is_due_of}
+use Rattle.update_encoder.specs.Written.{is_still_due_of}
 use Rattle.tiles.specs.Brings.{BringTheDue}
 use Rattle.update_encoder.specs.Coming.{shown}
 use Rattle.update_encoder.specs.Style.{Style}
@@ -69,25 +69,25 @@ pub record AppendsAll (style : Style) (screen : Canvas) (may_copy : Bool) (above
   pub appended : new ≡ old ++ bytes
   pub spells : SpellsAll style screen may_copy above rectangles begun now bytes
 
--- These bytes are a whole answer of what a screen of w by h shows in the due tiles of an area, in each state in which
--- the stream has begun, or hasn't. Whether it has begun after the answer is `now`.
-pub record IsWhole (style : Style) (w h : ℕ) (area : Rect) (screen : Canvas) (due : ℕ → Bool) (all_were_sent begun now : Bool) (bytes : List ℕ) : Type 0 where
+-- These bytes are a whole answer of copies, and of what a screen of w by h shows in the due tiles of an area, in each
+-- state in which the stream has begun, or hasn't. Whether it has begun after the answer is `now`.
+pub record IsWhole (style : Style) (w h : ℕ) (area : Rect) (screen : Canvas) (copies : List Paint) (due : ℕ → Bool) (all_were_sent begun now : Bool) (bytes : List ℕ) : Type 0 where
   pub rectangles : List Rect
   pub brings : BringTheDue w h area due rectangles
   pub answers : (before : ZlibStream) → has_begun before ≡ begun
-      → (after : ZlibStream) × IsAnswer (with_zrle style) screen all_were_sent rectangles before bytes after × (has_begun after ≡ now)
+      → (after : ZlibStream) × IsAnswer (with_zrle style) screen copies all_were_sent rectangles before bytes after × (has_begun after ≡ now)
 
 -- What was written of a cut is such an answer.
 abbrev pub IsWholeOf : Style → Cut → Rect → (begun now : Bool) → (bytes : List ℕ) → Type 0
-IsWholeOf style cut area begun now bytes = IsWhole style cut.width cut.height area (shown cut) (marked cut) cut.all_were_sent begun now bytes
+IsWholeOf style cut area begun now bytes = IsWhole style cut.width cut.height area (shown cut) (copies_in cut) (marked cut) cut.all_were_sent begun now bytes
 
--- An answer of a cut is one of the screen that was cut, in the tiles that were due there.
+-- An answer of a cut is one of the screen that was cut, in the tiles that were still due there.
 abbrev pub CutsAreAnswered : Type 0
 CutsAreAnswered =
-    (us : List Update) (n : ℕ) (area : Rect) (have : SentTiles) (cut : Cut) (style : Style) (begun now : Bool) (bytes : List ℕ)
-    → IsCutOf us n area have cut → have.width ≡ cut.width → have.height ≡ cut.height → IsScreenSize cut.width cut.height → IsWithin area cut.width cut.height
+    (us : List Update) (n : ℕ) (area : Rect) (have : SentTiles) (since : Option ℕ) (cut : Cut) (style : Style) (begun now : Bool) (bytes : List ℕ)
+    → IsCutOf us n area have since cut → have.width ≡ cut.width → have.height ≡ cut.height → IsScreenSize cut.width cut.height → IsWithin area cut.width cut.height
     → IsWholeOf style cut area begun now bytes
-    → IsWhole style cut.width cut.height area (screen (take n us)) (is_due_of have (take n us)) cut.all_were_sent begun now bytes
+    → IsWhole style cut.width cut.height area (screen (take n us)) (copies_in cut) (is_still_due_of have area since (take n us)) cut.all_were_sent begun now bytes
 
 -- Why no answer was written: memory was refused; or it has more bytes than a limit, as those have that were written; or
 -- it isn't worth it, which is open.

@@ -3,10 +3,9 @@
 ghost use Rattle.std.specs.Prelude.{◌≡◌, ◌<◌, ◌≤◌, ◌^◌, [], ◌++◌, ◌&&◌, length, OnOk, IfOk, IfErr, None};
 ghost use Rattle.std.specs.List.{All};
 ghost use Rattle.raster.specs.Screen.{IsWithin};
-ghost use Rattle.reflect_core.specs.Source.{marked};
-ghost use Rattle.rfb_wire.specs.Writing.{update_head_bytes};
+ghost use Rattle.reflect_core.specs.Source.{copies_in, marked};
 ghost use Rattle.tiles.specs.Brings.{IsPart};
-ghost use Rattle.update_encoder.specs.Coming.{shown};
+ghost use Rattle.update_encoder.specs.Coming.{front_bytes, shown};
 ghost use Rattle.update_encoder.specs.Style.{style_in};
 ghost use Rattle.zrle_answer.specs.Planned.{areas_of};
 ghost use Rattle.zrle_answer.specs.Written.{AppendsAll, IsWholeOf, IsWhy};
@@ -15,9 +14,8 @@ use crate::one::OneWriter;
 use crate::plan::{Planned, is_mostly_zrle, plan_rectangles};
 use raster::Rect;
 use reflect_core::Cut;
-use rfb_wire::write_update_head;
 use std::alloc::{AllocError, Global};
-use update_encoder::Style;
+use update_encoder::{LONGEST_FRONT, Style, write_front};
 
 /// Why an answer wasn't written.
 #[derive(Clone, Copy, Debug, PartialEq, Eq)]
@@ -26,7 +24,8 @@ pub enum Unwritten {
     Memory,
     /// It has more bytes than the limit.
     TooLong,
-    /// Most of it wouldn't be in ZRLE, since it looks like noise, or is small.
+    /// Most of what it shows wouldn't be in ZRLE, since it looks like noise, or is small. Or it shows nothing: it has
+    /// copies alone.
     NotWorthIt,
 }
 
@@ -42,16 +41,15 @@ impl From<AllocError> for Unwritten {
     }
 }
 
-/// How many bytes the header of an update has (RFC 6143, 7.6.1).
-const UPDATE_HEAD_LEN: usize = 4;
-
-/// The header of an update of this many rectangles.
-fn head_of(count: u16) -> [u8; UPDATE_HEAD_LEN]
-    ensures { result ≡ update_head_bytes count }
+/// Appends the front of an answer of so many rectangles: its header, and the copies of the host that the cut passes on.
+fn append_front(cut: &Cut, count: u64, out: &mut Vec<u8>) -> Result<(), AllocError>
+    requires { count ≤ 2 ^ 15 }
+    ensures ok { OnOk result (out.new.items
+        ≡ out.old.items ++ front_bytes (copies_in cut.now) count) }
 {
-    let mut head = [0; UPDATE_HEAD_LEN];
-    write_update_head(count, &mut head);
-    head
+    let mut front = [0; LONGEST_FRONT];
+    let len = write_front(cut.passed.copies(), count, &mut front);
+    out.extend_from_slice(&front[..len])
 }
 
 /// Whether CopyRect may be used: the viewer takes it, and was sent each due tile before (RFC 6143, 7.7.2).
@@ -72,8 +70,8 @@ fn check_len(out: &Vec<u8>, limit: usize) -> Result<(), Unwritten>
     Ok(())
 }
 
-/// Appends the rectangles of an answer, for a viewer whose zlib stream has `begun` or has not, and answers whether it has
-/// begun then. It gives up once there are more bytes than `limit`.
+/// Appends the rectangles of an answer, for a viewer whose zlib stream has `begun` or has not, and answers whether it
+/// has begun then. It gives up once there are more bytes than `limit`.
 fn append_all(
     writer: &mut OneWriter,
     style: &Style,
@@ -118,11 +116,12 @@ impl AnswerWriter {
         })
     }
 
-    /// Writes an answer of what a cut shows in the due tiles of an area, in a style, for a viewer that takes ZRLE and
-    /// whose zlib stream has `begun` or has not (RFC 6143, 7.6.1 and 7.7.6). Answers whether the stream has begun after
-    /// it. `out` then has the answer's bytes and no others, `limit` of them at most. Where memory is refused (`Memory`),
-    /// the answer is longer (`TooLong`), or most of it wouldn't be in ZRLE (`NotWorthIt`), what `out` has is to be sent to
-    /// nobody. The last is known before anything is compressed.
+    /// Writes an answer of the copies that a cut passes on, and of what it shows in the tiles of an area that are still
+    /// due, in a style, for a viewer that takes ZRLE and whose zlib stream has `begun` or has not (RFC 6143, 7.6.1 and
+    /// 7.7.6). Answers whether the stream has begun after it. `out` then has the answer's bytes and no others, `limit`
+    /// of them at most. Where memory is refused (`Memory`), the answer is longer (`TooLong`), or most of its rectangles
+    /// wouldn't be in ZRLE, or there are none (`NotWorthIt`), what `out` has is to be sent to nobody. The last is known
+    /// before anything is compressed.
     pub fn write(
         &mut self,
         cut: &Cut,
@@ -146,7 +145,7 @@ impl AnswerWriter {
             return Err(Unwritten::NotWorthIt);
         }
         self.writer.make_parts(style, cut, plan);
-        out.extend_from_slice(&head_of(plan.len() as u16))?;
+        append_front(cut, plan.len() as u64, out)?;
         append_all(&mut self.writer, style, cut, plan, begun, limit, out)
     }
 }

@@ -118,8 +118,8 @@ impl OneWriter {
         })
     }
 
-    /// Makes the part of an area for all who are shown the same, unless one of them has begun to. Where memory is refused
-    /// there is none.
+    /// Makes the part of an area for all who are shown the same, unless one of them has begun to. Where memory is
+    /// refused there is none.
     fn make_part(&mut self, parts: &SharedParts, style: &Style, cut: &Cut, area: &Rect)
         requires within { IsWithin area.now cut.now.width cut.now.height }
         requires parts { ArePartsOf cut.now.width cut.now.colours.items parts.now }
@@ -179,8 +179,9 @@ impl OneWriter {
             .append(&pixels, colours, width, height, area, begun, out)
     }
 
-    /// Appends a rectangle of an answer, given the one before it, for a viewer whose zlib stream has `begun` or has not.
-    /// It is in ZRLE, unless that isn't to be tried or is longer than Raw. Answers whether the stream has begun then.
+    /// Appends a rectangle of an answer, given the one before it, for a viewer whose zlib stream has `begun` or has
+    /// not. It is in ZRLE, unless that isn't to be tried or is longer than Raw. Answers whether the stream has begun
+    /// then.
     pub(crate) fn append(
         &mut self,
         style: &Style,

@@ -95,8 +95,8 @@ fn is_plain(cut: &Cut, run: &Rect) -> bool
     run.w * run.h < FEWEST_POSITIONS || looks_noisy(cut.colours.as_slice(), width, height, run)
 }
 
-/// Whether less than half of the positions are in rectangles without ZRLE. Nothing rests on the answer but whether an
-/// answer is written at all.
+/// Whether there are rectangles, and no more than half of their positions are in rectangles without ZRLE. Nothing rests
+/// on the answer but whether an answer is written at all.
 pub(crate) fn is_mostly_zrle(plan: &[Planned]) -> bool {
     let mut all: u64 = 0;
     let mut plain: u64 = 0;
@@ -107,11 +107,11 @@ pub(crate) fn is_mostly_zrle(plan: &[Planned]) -> bool {
             plain = plain.wrapping_add(positions);
         }
     }
-    plain <= all / 2
+    !plan.is_empty() && plain <= all / 2
 }
 
-/// Plans the rectangles that bring what a cut shows in the due tiles of an area: their runs, those of rows below one
-/// another joined where ZRLE is tried.
+/// Plans the rectangles that bring what a cut shows in the tiles of an area that are still due: their runs, those of
+/// rows below one another joined where ZRLE is tried.
 pub(crate) fn plan_rectangles(
     cut: &Cut,
     area: &Rect,

@@ -1,6 +1,7 @@
 //! Cuts of a screen, and whole answers of what they show.
 
 ghost use Rattle.std.specs.Prelude.{◌≡◌, ◌*◌, length, IfOk};
+ghost use Rattle.raster.specs.Screen.{IsWithin};
 ghost use Rattle.raster.specs.Size.{IsScreenSize};
 
 use crate::cases::{SCREEN_SIDE, rect_of};
@@ -36,7 +37,7 @@ fn cut_of(alloc: Global, width: u64, height: u64, colours: &[u32]) -> Result<Cut
         board.apply(&painter.patch()?, None);
     }
     let mut cut = Cut::new(alloc, width, height)?;
-    cut.fill_with_copy(&board, &all, &Have::new(alloc, width, height)?);
+    cut.fill_with_copy(&board, &all, &Have::new(alloc, width, height)?, None);
     Ok(cut)
 }
 
@@ -80,6 +81,63 @@ fn style_of(alloc: Global, word: &str) -> Result<Style, Fail> {
     })
 }
 
+/// The fields of a line `FORMAT WIDTH HEIGHT X Y W H LIMIT DUE COLOURS`: the answer is of `limit` bytes at most, and
+/// `due` says which tiles of the screen are due.
+#[derive(Drop)]
+struct AnswerLine<'a> {
+    style: Style,
+    width: u64,
+    height: u64,
+    area: Rect,
+    limit: usize,
+    due: &'a str,
+    colours: Vec<u32>,
+    ghost size: { IsScreenSize width height },
+    ghost count: { length colours.items ≡ width * height },
+    ghost within: { IsWithin area width height },
+}
+
+/// Reads the fields of a line.
+fn answer_line_of(alloc: Global, line: &str) -> Result<AnswerLine<'_>, Fail> {
+    let (format, rest) = parted(line);
+    let style = style_of(alloc, format)?;
+    let (width, rest) = parted(rest);
+    let (height, rest) = parted(rest);
+    let (area, rest) = rect_of(rest)?;
+    let (limit, rest) = parted(rest);
+    let (due, rest) = parted(rest);
+    let (width, height) = (width.parse::<usize>()?, height.parse::<usize>()?);
+    let limit = limit.parse::<usize>()?;
+    let colours = numbers_of(alloc, rest)?;
+    if width == 0 || height == 0 || width > SCREEN_SIDE || height > SCREEN_SIDE {
+        return Err(Fail::new("no such screen"));
+    }
+    if colours.len() != width * height || !area.within(width as u64, height as u64) {
+        return Err(Fail::new("no such area"));
+    }
+    Ok(AnswerLine {
+        style,
+        width: width as u64,
+        height: height as u64,
+        area,
+        limit,
+        due,
+        colours,
+    })
+}
+
+/// Fails unless two viewers that share parts are each sent this answer, which was written for one that shares none.
+fn expect_shared(
+    alloc: Global,
+    line: &AnswerLine<'_>,
+    begun: bool,
+    alone: &[u8],
+) -> Result<(), Fail> {
+    let mut cut = shared_cut_of(alloc, line.width, line.height, line.colours.as_slice())?;
+    mark(&mut cut, line.due)?;
+    expect_the_same(alloc, &cut, &line.area, &line.style, begun, alone)
+}
+
 /// Prints, in hex, the answer `FORMAT WIDTH HEIGHT X Y W H LIMIT DUE COLOURS`, or why there is none. Two viewers that
 /// share parts have to be sent the same. Answers whether the stream has begun after it.
 pub(crate) fn print_answer(
@@ -89,47 +147,26 @@ pub(crate) fn print_answer(
     line: &str,
 ) -> Result<bool, Fail> {
     let alloc = rt.alloc();
-    let (format, rest) = parted(line);
-    let style = style_of(alloc, format)?;
-    let (width, rest) = parted(rest);
-    let (height, rest) = parted(rest);
-    let (area, rest) = rect_of(rest)?;
-    let (limit, rest) = parted(rest);
-    let (due, rest) = parted(rest);
-    let (width, height) = (width.parse::<usize>()?, height.parse::<usize>()?);
-    let colours = numbers_of(alloc, rest)?;
-    if width == 0 || height == 0 || width > SCREEN_SIDE || height > SCREEN_SIDE {
-        return Err(Fail::new("no such screen"));
-    }
-    if colours.len() != width * height || !area.within(width as u64, height as u64) {
-        return Err(Fail::new("no such area"));
-    }
-    let mut cut = cut_of(alloc, width as u64, height as u64, colours.as_slice())?;
-    mark(&mut cut, due)?;
+    let line = answer_line_of(alloc, line)?;
+    let mut cut = cut_of(alloc, line.width, line.height, line.colours.as_slice())?;
+    mark(&mut cut, line.due)?;
     let mut out = Vec::new(alloc);
-    let now = match writer.write(
-        &cut,
-        &area,
-        &style,
-        begun,
-        limit.parse::<usize>()?,
-        &mut out,
-    ) {
-        Ok(now) => now,
+    let written = writer.write(&cut, &line.area, &line.style, begun, line.limit, &mut out);
+    match written {
+        Ok(now) => {
+            expect_shared(alloc, &line, begun, out.as_slice())?;
+            let text = hex::encode(alloc, out.as_slice())?;
+            println!(rt; "{text}")?;
+            Ok(now)
+        }
         Err(Unwritten::TooLong) => {
             println!(rt; "longer than the limit")?;
-            return Ok(begun);
+            Ok(begun)
         }
         Err(Unwritten::NotWorthIt) => {
             println!(rt; "not worth it")?;
-            return Ok(begun);
+            Ok(begun)
         }
-        Err(Unwritten::Memory) => return Err(Fail::new("memory was refused")),
-    };
-    let mut shared = shared_cut_of(alloc, width as u64, height as u64, colours.as_slice())?;
-    mark(&mut shared, due)?;
-    expect_the_same(alloc, &shared, &area, &style, begun, out.as_slice())?;
-    let text = hex::encode(alloc, out.as_slice())?;
-    println!(rt; "{text}")?;
-    Ok(now)
+        Err(Unwritten::Memory) => Err(Fail::new("memory was refused")),
+    }
 }

@@ -45,7 +45,7 @@ pub(crate) fn shared_cut_of(
     }
     let shown = Shown::new(alloc, Arc::new(alloc, board)?)?;
     let mut cut = Cut::new(alloc, width, height)?;
-    cut.fill(&shown, &all, &Have::new(alloc, width, height)?);
+    cut.fill(&shown, &all, &Have::new(alloc, width, height)?, None);
     Ok(cut)
 }
 
