@@ -82,10 +82,10 @@ good_look s us p looked le k = record { record_stands = stands_saw s.w s.h us lo
 pub good_cut : (s : Setup) (us : List Update) (p : Viewer) → s.w ≤ 4096 → s.h ≤ 4096 → IsGood s us p → IsGood s us (after_cut s us p)
 good_cut s us p lw lh k =
     record {
-      record_stands = stands_cut s.runs s.w s.h s.host us p.entries lw lh k.record_stands;
-      knows = know_cut s.runs s.w s.h s.host us p.entries None k.knows;
+      record_stands = stands_cut s.form s.w s.h s.host us p.entries lw lh k.record_stands;
+      knows = know_cut s.form s.w s.h s.host us p.entries None k.knows;
       reading = k.reading;
-      said = ap (λ t. t ++ sent_at s.runs s.w s.h s.host p.entries us) k.said ∙ sym (stream_after_cut s.runs s.w s.h s.host us p.entries);
+      said = ap (λ t. t ++ sent_at s.form s.w s.h s.host p.entries us) k.said ∙ sym (stream_after_cut s.form s.w s.h s.host us p.entries);
     }
 
 pub good_put : (s : Setup) (us : List Update) (u : Update) (p : Viewer) → IsGood s us p → IsGood s (us ++ u ∷ []) p

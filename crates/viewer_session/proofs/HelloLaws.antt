@@ -182,9 +182,8 @@ serves_hello s st p g hello said piece unsent k greets written left =
     record {
       width = k.width;
       height = k.height;
-      runs = k.runs;
+      form = k.form;
       host = k.host;
-      zrle = k.zrle;
       role = k.role;
       rests = ap (λ (q : Viewer). record q { hello = hello; said = said }) k.rests;
       greets = greets;

@@ -29,7 +29,7 @@ pub record IsHolding (s : Setup) (us : List Update) (p : Viewer) : Type 0 where
 -- And where no viewer is answered in ZRLE, all that stands of such a viewer.
 pub record IsKept (s : Setup) (us : List Update) (p : Viewer) : Type 0 where
   pub holding : IsHolding s us p
-  pub plain : s.zrle ≡ false → IsGood s us p
+  pub plain : s.form.zrle ≡ false → IsGood s us p
 
 pub kept_new : (s : Setup) (us : List Update) (role : Role) (greet : Bool) → IsKept s us (new_viewer role greet)
 kept_new s us role greet = record { holding = record { held = held_nothing s.w s.h us; knows = tt; reading = client_message_fine }; plain = λ z. good_new s us role greet }
@@ -67,20 +67,20 @@ kept_look s us p looked le k =
     }
 
 -- Where no viewer is answered in ZRLE nothing is chosen.
-heeds_none : (zrle takes : Bool) → zrle ≡ false → (zrle && takes) ≡ true → ⊥
+pub heeds_none : (zrle takes : Bool) → zrle ≡ false → (zrle && takes) ≡ true → ⊥
 heeds_none true takes z e = absurd cc
 heeds_none false takes z e = absurd cc
 
-plain_cut : (s : Setup) (us : List Update) (p : Viewer) (chosen : Option Chosen) → s.w ≤ 4096 → s.h ≤ 4096 → MayBeChosen s us p.entries p.stream chosen → s.zrle ≡ false → IsGood s us p → IsGood s us (after_cut_as s us chosen p)
+plain_cut : (s : Setup) (us : List Update) (p : Viewer) (chosen : Option Chosen) → s.w ≤ 4096 → s.h ≤ 4096 → MayBeChosen s us p.entries p.stream chosen → s.form.zrle ≡ false → IsGood s us p → IsGood s us (after_cut_as s us chosen p)
 plain_cut s us p None lw lh may z k = good_cut s us p lw lh k
-plain_cut s us p (Some chosen) lw lh may z k = absurd (heeds_none s.zrle (choice_of p.entries).zrle z may.heeded)
+plain_cut s us p (Some chosen) lw lh may z k = absurd (heeds_none s.form.zrle (choice_of p.entries).zrle z may.heeded)
 
 pub kept_cut : (s : Setup) (us : List Update) (p : Viewer) (chosen : Option Chosen) → s.w ≤ 4096 → s.h ≤ 4096 → MayBeChosen s us p.entries p.stream chosen → IsKept s us p → IsKept s us (after_cut_as s us chosen p)
 kept_cut s us p chosen lw lh may k =
     record {
       holding = record {
         held = held_cut s us p.entries p.stream chosen lw lh may k.holding.held;
-        knows = know_cut s.runs s.w s.h s.host us p.entries chosen k.holding.knows;
+        knows = know_cut s.form s.w s.h s.host us p.entries chosen k.holding.knows;
         reading = k.holding.reading;
       };
       plain = λ z. plain_cut s us p chosen lw lh may z (k.plain z);

@@ -12,6 +12,8 @@ pub mod TurnLaws
 pub mod WholeAnswers
 pub mod SentAs
 pub mod Parts
+pub mod KnownTiles
+pub mod Copied
 pub mod Stands
 pub mod Told
 pub mod Accepted

@@ -118,7 +118,7 @@ passed_turn s us p looked None sent k = passed_as p _ sent k refl refl refl refl
 passed_turn s us p looked (Some cut) sent k =
     let first : List Update = take cut.number us in
     let size : Option Size = size_at s.w s.h s.host (Saw looked ∷ p.entries) first in
-    let o : Option (Rect × List ℕ) = with_chosen cut.chosen (update_at s.runs s.w s.h (Saw looked ∷ p.entries) first) in
+    let o : Option (Rect × List ℕ) = with_chosen cut.chosen (update_at s.form s.w s.h (Saw looked ∷ p.entries) first) in
     passed_as p _ sent k refl refl refl (began_messages (length first) size o (Saw looked ∷ p.entries)) (began_last (length first) size o (Saw looked ∷ p.entries))
 
 pub passed_all : (s : Setup) (us : List Update) (p : Viewer) (acts : List Act) → HasPassed p [] → HasPassed (viewer_after s us p acts) (handed_out s us p acts)

@@ -20,9 +20,8 @@ serves_held s st p held waiting k =
     record {
       width = k.width;
       height = k.height;
-      runs = k.runs;
+      form = k.form;
       host = k.host;
-      zrle = k.zrle;
       role = k.role;
       rests = k.rests;
       greets = k.greets;
@@ -40,9 +39,8 @@ serves_input s st p keys waiting k =
     record {
       width = k.width;
       height = k.height;
-      runs = k.runs;
+      form = k.form;
       host = k.host;
-      zrle = k.zrle;
       role = k.role;
       rests = ap (λ (q : Viewer). record q { keys = keys; waiting = waiting }) k.rests;
       greets = k.greets;

@@ -32,15 +32,14 @@ resting m p e = ap (after_noting m) e
 
 -- A message was taken, and the record is kept.
 pub serves_taking : (s : Setup) (m : ClientMessage) (st new : State) (p : Viewer) → Serves s st p
-    → new.width ≡ st.width → new.height ≡ st.height → new.runs ≡ st.runs → new.host ≡ st.host → new.zrle ≡ st.zrle → new.role ≡ st.role → new.greeting ≡ st.greeting → new.reader ≡ st.reader → new.unsent ≡ st.unsent
+    → new.width ≡ st.width → new.height ≡ st.height → new.form ≡ st.form → new.host ≡ st.host → new.role ≡ st.role → new.greeting ≡ st.greeting → new.reader ≡ st.reader → new.unsent ≡ st.unsent
     → new.begun ≡ st.begun → Keeps s.w s.h new (Took m ∷ p.entries) → Serves s new (after_noting m p)
-serves_taking s m st new p k ew eh en ef ez er eg er2 eu eb keeps =
+serves_taking s m st new p k ew eh en ef er eg er2 eu eb keeps =
     record {
       width = ew ∙ k.width;
       height = eh ∙ k.height;
-      runs = en ∙ k.runs;
+      form = en ∙ k.form;
       host = ef ∙ k.host;
-      zrle = ez ∙ k.zrle;
       role = k.role ∙ sym er;
       rests = resting m p k.rests;
       greets = subst (λ (o : Option Greeting). Greets s o p.greet p.hello p.said p.said_after) (sym eg) k.greets;
@@ -63,7 +62,7 @@ serves_asked s st now p incremental area clipped asked have is stands e a h =
     let k : Serves s st p = subst (λ (t : State). Serves s t p) (sym is) stands in
     let same : clipped ≡ common area (whole_screen s.w s.h) = e ∙ (ap (λ n. common area (whole_screen n st.height)) k.width ∙ ap (λ n. common area (whole_screen s.w n)) k.height) in
     let es : List Event = events s.w s.h p.entries in
-    serves_taking s (Ask incremental area) st (record st { asked = asked; have = have }) p k refl refl refl refl refl refl refl refl refl refl
+    serves_taking s (Ask incremental area) st (record st { asked = asked; have = have }) p k refl refl refl refl refl refl refl refl refl
     (record {
       asked = subst (λ (r : Rect). AskedStands asked (Requested incremental r ∷ es)) same (a es k.keeps.asked);
       have = subst (λ (r : Rect). HaveStands have (Requested incremental r ∷ es)) same (h es k.keeps.have);
@@ -80,7 +79,7 @@ pub serves_format : (s : Setup) (st now : State) (p : Viewer) (format : PixelFor
 serves_format s st now p format asked have is stands a h =
     let k : Serves s st p = subst (λ (t : State). Serves s t p) (sym is) stands in
     let es : List Event = events s.w s.h p.entries in
-    serves_taking s (SetPixelFormat format) st (record st { format = format; asked = asked; have = have }) p k refl refl refl refl refl refl refl refl refl refl
+    serves_taking s (SetPixelFormat format) st (record st { format = format; asked = asked; have = have }) p k refl refl refl refl refl refl refl refl refl
     (record { asked = a es k.keeps.asked; have = h es k.keeps.have; format = refl; choice = k.keeps.choice; told = k.keeps.told })
 
 none_by : (a b c d e f g k : ℕ) → is_empty (record { x = a; y = b; w = c; h = d }) ≡ true → meets (record { x = a; y = b; w = c; h = d }) (record { x = e; y = f; w = g; h = k }) ≡ false
@@ -101,19 +100,19 @@ stands_empty incremental area have es e k =
 -- A message that changes nothing: input.
 pub serves_key : (s : Setup) (st : State) (p : Viewer) (down : Bool) (key : ℕ) → Serves s st p → Serves s st (after_noting (Key down key) p)
 serves_key s st p down key k =
-    serves_taking s (Key down key) st st p k refl refl refl refl refl refl refl refl refl refl (record { asked = k.keeps.asked; have = k.keeps.have; format = k.keeps.format; choice = k.keeps.choice; told = k.keeps.told })
+    serves_taking s (Key down key) st st p k refl refl refl refl refl refl refl refl refl (record { asked = k.keeps.asked; have = k.keeps.have; format = k.keeps.format; choice = k.keeps.choice; told = k.keeps.told })
 
 pub serves_pointer : (s : Setup) (st : State) (p : Viewer) (mask x y : ℕ) → Serves s st p → Serves s st (after_noting (Pointer mask x y) p)
 serves_pointer s st p mask x y k =
-    serves_taking s (Pointer mask x y) st st p k refl refl refl refl refl refl refl refl refl refl (record { asked = k.keeps.asked; have = k.keeps.have; format = k.keeps.format; choice = k.keeps.choice; told = k.keeps.told })
+    serves_taking s (Pointer mask x y) st st p k refl refl refl refl refl refl refl refl refl (record { asked = k.keeps.asked; have = k.keeps.have; format = k.keeps.format; choice = k.keeps.choice; told = k.keeps.told })
 
 pub serves_text : (s : Setup) (st : State) (p : Viewer) (text : List ℕ) → Serves s st p → Serves s st (after_noting (CutText text) p)
 serves_text s st p text k =
-    serves_taking s (CutText text) st st p k refl refl refl refl refl refl refl refl refl refl (record { asked = k.keeps.asked; have = k.keeps.have; format = k.keeps.format; choice = k.keeps.choice; told = k.keeps.told })
+    serves_taking s (CutText text) st st p k refl refl refl refl refl refl refl refl refl (record { asked = k.keeps.asked; have = k.keeps.have; format = k.keeps.format; choice = k.keeps.choice; told = k.keeps.told })
 
 pub serves_lost : (s : Setup) (st : State) (p : Viewer) (len : ℕ) → Serves s st p → Serves s st (after_noting (LostText len) p)
 serves_lost s st p len k =
-    serves_taking s (LostText len) st st p k refl refl refl refl refl refl refl refl refl refl (record { asked = k.keeps.asked; have = k.keeps.have; format = k.keeps.format; choice = k.keeps.choice; told = k.keeps.told })
+    serves_taking s (LostText len) st st p k refl refl refl refl refl refl refl refl refl (record { asked = k.keeps.asked; have = k.keeps.have; format = k.keeps.format; choice = k.keeps.choice; told = k.keeps.told })
 
 -- ---- looks
 
@@ -123,9 +122,8 @@ serves_look s st p o k =
     record {
       width = k.width;
       height = k.height;
-      runs = k.runs;
+      form = k.form;
       host = k.host;
-      zrle = k.zrle;
       role = k.role;
       rests = ap (λ (q : Viewer). record q { looked = o }) k.rests;
       greets = k.greets;
@@ -144,9 +142,8 @@ serves_saw s st p n k =
     record {
       width = k.width;
       height = k.height;
-      runs = k.runs;
+      form = k.form;
       host = k.host;
-      zrle = k.zrle;
       role = k.role;
       rests = ap (after_look n) k.rests;
       greets = k.greets;
@@ -183,9 +180,8 @@ serves_written s st p n piece le k =
     record {
       width = k.width;
       height = k.height;
-      runs = k.runs;
+      form = k.form;
       host = k.host;
-      zrle = k.zrle;
       role = k.role;
       rests = ap (after_writing n) k.rests;
       greets = k.greets;

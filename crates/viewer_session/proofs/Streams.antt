@@ -9,7 +9,7 @@ use Rattle.raster.specs.declared.size.Size.{Size}
 use Rattle.raster.specs.Update.{Paint, Resized, Update, Paints, Cut, bells, last_text, last_text_from, NumberedText}
 use Rattle.raster.specs.Update as update
 use Rattle.raster.proofs.Spellings.{Each}
-use Rattle.joined_runs.specs.declared.rect_form.RectForm.{RectForm}
+use Rattle.viewer_session.specs.declared.form.AnswerForm.{AnswerForm}
 use Rattle.rfb_wire.specs.ClientMessage.{ClientMessage, SetPixelFormat, SetEncodings, Ask, Key, Pointer, CutText, LostText, longest_text}
 use Rattle.rfb_wire.specs.ServerMessage as server
 use Rattle.rfb_wire.specs.ServerMessage.{ServerMessage, FramebufferUpdate, Bell, ServerCutText, server_message}
@@ -33,7 +33,7 @@ stream-append (Bytes bytes ∷ xs) ys = ap (λ t. bytes ++ t) (stream-append xs 
 pub stream-bytes : (xs : List Heard) (bytes : List ℕ) → stream_of (xs ++ Bytes bytes ∷ []) ≡ stream_of xs ++ bytes
 stream-bytes xs bytes = stream-append xs (Bytes bytes ∷ []) ∙ ap (λ t. stream_of xs ++ t) (append-nil bytes)
 
-listener-push : (w h : ℕ) (l : Listener) (xs : List Heard) (x : Heard) → listener_from w h l (xs ++ x ∷ []) ≡ hears w h (listener_from w h l xs) x
+pub listener-push : (w h : ℕ) (l : Listener) (xs : List Heard) (x : Heard) → listener_from w h l (xs ++ x ∷ []) ≡ hears w h (listener_from w h l xs) x
 listener-push w h l [] x = refl
 listener-push w h l (y ∷ xs) x = listener-push w h (hears w h l y) xs x
 
@@ -64,7 +64,7 @@ hears_bell : (w h : ℕ) (f : Follower) (ms : List ServerMessage) (us : List Upd
 hears_bell w h f ms us None = ap (between w h f) (sym (append-nil ms))
 hears_bell w h f ms us (Some number) = hears_bell_if w h f ms (nat_lt (bells (take number us)) (bells us))
 
-spells_server_text : (format : PixelFormat) (w h : ℕ) (text : List ℕ) → length text ≤ longest_text → Spells (server_message format w h) (server_text_bytes text) (ServerCutText text)
+pub spells_server_text : (format : PixelFormat) (w h : ℕ) (text : List ℕ) → length text ≤ longest_text → Spells (server_message format w h) (server_text_bytes text) (ServerCutText text)
 spells_server_text format w h text short = let said = text_is_kept ServerCutText server.LostText text short in record { whole = ap suc said.whole; says = said.says }
 
 hears_text_if : (w h : ℕ) (f : Follower) (ms : List ServerMessage) (b : Bool) (text : List ℕ) → length text ≤ longest_text
@@ -73,11 +73,11 @@ hears_text_if w h f ms true text short = hears_message w h f ms (server_text_byt
 hears_text_if w h f ms false text short = ap (between w h f) (sym (append-nil ms))
 
 -- A text that is there is short.
-abbrev IsShort : Option NumberedText → Type 0
+abbrev pub IsShort : Option NumberedText → Type 0
 IsShort None = Unit {0}
 IsShort (Some last) = length last.text ≤ longest_text
 
-last_short : (last : Option NumberedText) (next : ℕ) (us : List Update) → IsShort last → Each BringsShortText us → IsShort (last_text_from last next us)
+pub last_short : (last : Option NumberedText) (next : ℕ) (us : List Update) → IsShort last → Each BringsShortText us → IsShort (last_text_from last next us)
 last_short last next [] k l = k
 last_short last next (Paints size ps ∷ us) k l = last_short last (next + 1) us k l.1
 last_short last next (update.Bell ∷ us) k l = last_short last (next + 1) us k l.1
@@ -102,7 +102,8 @@ hears_news w h f ms us o k =
 abbrev with_message : Follower → Option ServerMessage → Follower
 with_message f o = record { format = f.format; held = after_message f.held o }
 
-each_take : {A : Type 0} (P : A → Type 0) (n : ℕ) (xs : List A) → Each P xs → Each P (take n xs)
+-- What is so of each of a list is so of each of the first n.
+pub each_take : {A : Type 0} (P : A → Type 0) (n : ℕ) (xs : List A) → Each P xs → Each P (take n xs)
 each_take P zero xs k = tt
 each_take P (suc n) [] k = tt
 each_take P (suc n) (x ∷ xs) k = (k.0, each_take P n xs k.1)
@@ -178,6 +179,25 @@ heard_more w h us u (MadeCut number ∷ es) k =
 heard_more w h us u (Began area number bytes ∷ es) k = ap (λ t. t ++ Bytes bytes ∷ []) (heard_more w h us u es k.1)
 heard_more w h us u (ToldSize size number bytes ∷ es) k = ap (λ t. t ++ Bytes bytes ∷ []) (heard_more w h us u es k.1)
 
+one_more : (xs all : List Heard) (x : Heard) → (more : List Heard) × (all ≡ xs ++ more) → (more : List Heard) × (all ++ x ∷ [] ≡ xs ++ more)
+one_more xs all x k = (k.0 ++ x ∷ [], ap (λ t. t ++ x ∷ []) k.1 ∙ append_assoc xs k.0 (x ∷ []))
+
+-- What came of the earlier entries begins what came of all.
+pub heard_begins : (w h : ℕ) (us : List Update) (later earlier : List Entry) → (more : List Heard) × (heard w h us (later ++ earlier) ≡ heard w h us earlier ++ more)
+heard_begins w h us [] earlier = ([], sym (append-nil (heard w h us earlier)))
+heard_begins w h us (Took (SetPixelFormat format) ∷ later) earlier = one_more (heard w h us earlier) (heard w h us (later ++ earlier)) (Format format) (heard_begins w h us later earlier)
+heard_begins w h us (Took (SetEncodings choice) ∷ later) earlier = heard_begins w h us later earlier
+heard_begins w h us (Took (Ask incremental area) ∷ later) earlier = heard_begins w h us later earlier
+heard_begins w h us (Took (Key down key) ∷ later) earlier = heard_begins w h us later earlier
+heard_begins w h us (Took (Pointer mask x y) ∷ later) earlier = heard_begins w h us later earlier
+heard_begins w h us (Took (CutText text) ∷ later) earlier = heard_begins w h us later earlier
+heard_begins w h us (Took (LostText len) ∷ later) earlier = heard_begins w h us later earlier
+heard_begins w h us (Saw number ∷ later) earlier = heard_begins w h us later earlier
+heard_begins w h us (MadeCut number ∷ later) earlier =
+    one_more (heard w h us earlier) (heard w h us (later ++ earlier)) (Bytes (news_at (take number us) (news_since w h (later ++ earlier)))) (heard_begins w h us later earlier)
+heard_begins w h us (Began area number bytes ∷ later) earlier = one_more (heard w h us earlier) (heard w h us (later ++ earlier)) (Bytes bytes) (heard_begins w h us later earlier)
+heard_begins w h us (ToldSize size number bytes ∷ later) earlier = one_more (heard w h us earlier) (heard w h us (later ++ earlier)) (Bytes bytes) (heard_begins w h us later earlier)
+
 -- A message that is taken sends nothing.
 pub stream_took : (w h : ℕ) (us : List Update) (m : ClientMessage) (es : List Entry) → stream_of (heard w h us (Took m ∷ es)) ≡ stream_of (heard w h us es)
 stream_took w h us (SetPixelFormat format) es = stream-append (heard w h us es) (Format format ∷ []) ∙ append-nil (stream_of (heard w h us es))
@@ -208,5 +228,5 @@ stream_begun w h us es (Some size) o =
     ∙ (ap (λ t. t ++ size_bytes size) (stream_cut w h us es) ∙ append_assoc (stream_of (heard w h us es)) (news_at us (news_since w h es)) (size_bytes size))
 
 -- A cut sends what its record comes to.
-pub stream_after_cut : (form : RectForm) (w h : ℕ) (host : Option Size) (us : List Update) (es : List Entry) → stream_of (heard w h us (record_after_cut form w h host es us)) ≡ stream_of (heard w h us es) ++ sent_at form w h host es us
+pub stream_after_cut : (form : AnswerForm) (w h : ℕ) (host : Option Size) (us : List Update) (es : List Entry) → stream_of (heard w h us (record_after_cut form w h host es us)) ≡ stream_of (heard w h us es) ++ sent_at form w h host es us
 stream_after_cut form w h host us es = stream_begun w h us es (size_at w h host es us) (update_at form w h es us)

@@ -9,11 +9,11 @@ use Rattle.raster.specs.declared.rect.Rect.{Rect}
 use Rattle.raster.specs.declared.size.Size.{Size}
 use Rattle.raster.specs.Screen.{tile_count}
 use Rattle.raster.specs.Update.{Update, last_size}
-use Rattle.joined_runs.specs.declared.rect_form.RectForm.{RectForm}
+use Rattle.viewer_session.specs.declared.form.AnswerForm.{AnswerForm}
 use Rattle.reflect_core.specs.Asked.{pending}
 use Rattle.viewer_session.specs.Record.{Entry, Took, Saw, MadeCut, Began, ToldSize, NumbersUpTo, events, choice_of}
 use Rattle.viewer_session.specs.Told.{KnowsSize}
-use Rattle.viewer_session.specs.Turn.{clipped_to, due_tile_in, host_size, is_same_size, size_at, size_for, size_if_new, told_at, told_of, update_at, update_for, began_at, record_after_cut_as, Chosen, with_chosen}
+use Rattle.viewer_session.specs.Turn.{clipped_to, has_answer, host_size, is_same_size, size_at, size_for, size_if_new, told_at, told_of, update_at, update_for, began_at, record_after_cut_as, Chosen, with_chosen}
 
 -- It knows the size at each answer of a record.
 abbrev pub AllKnow : ℕ → ℕ → Option Size → List Update → List Entry → Type 0
@@ -72,18 +72,18 @@ know_none : (w h : ℕ) (host : Option Size) (us : List Update) (es : List Entry
 know_none w h host us es None k = k
 know_none w h host us es (Some chosen) k = k
 
-know_for : (form : RectForm) (w h : ℕ) (host : Option Size) (us : List Update) (es : List Entry) (chosen : Option Chosen) (o : Option Rect) → size_for w h host (choice_of es).resizes (told_of w h es) (last_size us) o ≡ None → AllKnow w h host us es
+know_for : (form : AnswerForm) (w h : ℕ) (host : Option Size) (us : List Update) (es : List Entry) (chosen : Option Chosen) (o : Option Rect) → size_for w h host (choice_of es).resizes (told_of w h es) (last_size us) o ≡ None → AllKnow w h host us es
     → AllKnow w h host us (began_at (length us) (with_chosen chosen (update_for form w h es us (clipped_to (told_of w h es) o))) (MadeCut (length us) ∷ es))
 know_for form w h host us es chosen None none k = know_none w h host us es chosen k
 know_for form w h host us es chosen (Some area) none k =
-    know_if w h host us es chosen (list_any (due_tile_in w h es us _) (range_with_len 0 (tile_count w h))) _ (knows_asked w h host us es (Some area) area refl none) k
+    know_if w h host us es chosen (has_answer form w h es us _) _ (knows_asked w h host us es (Some area) area refl none) k
 
-know_begun : (form : RectForm) (w h : ℕ) (host : Option Size) (us : List Update) (es : List Entry) (chosen : Option Chosen) (o : Option Size) → size_at w h host es us ≡ o → AllKnow w h host us es
+know_begun : (form : AnswerForm) (w h : ℕ) (host : Option Size) (us : List Update) (es : List Entry) (chosen : Option Chosen) (o : Option Size) → size_at w h host es us ≡ o → AllKnow w h host us es
     → AllKnow w h host us (told_at (length us) o (with_chosen chosen (update_at form w h es us)) (MadeCut (length us) ∷ es))
 know_begun form w h host us es chosen None none k = know_for form w h host us es chosen (pending (events w h es)) none k
 know_begun form w h host us es chosen (Some size) e k = k
 
-pub know_cut : (form : RectForm) (w h : ℕ) (host : Option Size) (us : List Update) (es : List Entry) (chosen : Option Chosen) → AllKnow w h host us es → AllKnow w h host us (record_after_cut_as chosen form w h host es us)
+pub know_cut : (form : AnswerForm) (w h : ℕ) (host : Option Size) (us : List Update) (es : List Entry) (chosen : Option Chosen) → AllKnow w h host us es → AllKnow w h host us (record_after_cut_as chosen form w h host es us)
 know_cut form w h host us es chosen k = know_begun form w h host us es chosen (size_at w h host es us) refl k
 
 pub known_behind : (w h : ℕ) (host : Option Size) (us : List Update) (later earlier : List Entry) → AllKnow w h host us (later ++ earlier) → AllKnow w h host us earlier

@@ -1,11 +1,9 @@
 -- What a turn begins to send. `Session::turn_at` owes the bytes of the definitions.
 use Rattle.std.proofs.Common.{◌≡◌, ℕ, zero, suc, ◌^◌, ◌<◌, ◌≤◌, Bool, true, false, List, [], ◌∷◌, ◌++◌, length, take, drop, Option, Some, None, refl, sym, ap, subst, ◌∙◌, arith, length-append, append_assoc, ◌⊎◌, inl, inr}
 use Rattle.std.specs.Prelude.{◌&&◌, ◌||◌, not, is_none, is_some, if◌then◌else◌, unwrap_or, ◌==◌, nat_lt, nat_le}
-use Rattle.std.specs.Int.{w16, from_be_bytes}
-use Rattle.std.specs.List.{list_any, range_with_len, flat_map}
+use Rattle.std.specs.List.{list_any, range_with_len}
 use Rattle.std.proofs.lemmas.Bool.Decides.{nat_tests}
 use Rattle.std.proofs.lemmas.Bool.{eqb-true}
-use Rattle.std.proofs.lemmas.Nat.{from_be_bytes-to_be_bytes_2}
 use Rattle.std.proofs.lemmas.List.{length-take, length-drop, take-take, take_all}
 use Rattle.std.proofs.Math.Seq.{drop-append_seam}
 use Rattle.byte_reading.specs.Reading.{Reading, whole_of}
@@ -13,91 +11,89 @@ use Rattle.raster.specs.declared.rect.Rect.{Rect}
 use Rattle.raster.specs.declared.size.Size.{Size}
 use Rattle.raster.specs.Screen.{IsWithin, meets, tile_rect, tile_count}
 use Rattle.raster.specs.Size.{IsScreenSize}
-use Rattle.raster.specs.Update.{Update, Paints, Cut, screen, bells, last_size, last_text, NumberedText}
+use Rattle.raster.specs.Update.{Paint, Update, Paints, Cut, screen, bells, last_size, last_text, NumberedText}
 use Rattle.raster.specs.Update as update
 use Rattle.rfb_wire.specs.Greeting.{Greeting, ahead}
 use Rattle.rfb_wire.specs.Handshake.{said_to_viewer}
-use Rattle.rfb_wire.specs.Writing.{bell_bytes, update_head_bytes}
-use Rattle.tiles.specs.Have.{SentTiles, HaveStands}
+use Rattle.rfb_wire.specs.Writing.{bell_bytes}
+use Rattle.tiles.specs.Have.{SentTiles, HaveStands, sent_at}
 use Rattle.tiles.specs.Touched.{Event, WasCut, is_due_since, runs, told_last}
 use Rattle.tiles.proofs.HaveLaws.{sent_at_stands}
-use Rattle.tiles.proofs.RunLaws.{runs_few}
 use Rattle.reflect_core.specs.declared.cut.Cut as cutting
 use Rattle.reflect_core.specs.Asked.{Wanted, AskedStands, last_cut}
-use Rattle.reflect_core.specs.Source.{IsCutOf, marked, was_sent_if_due}
-use Rattle.reflect_core.proofs.CutLaws.{marks_due}
-use Rattle.update_encoder.specs.Answer.{all_spelled, answer_bytes}
+use Rattle.copy_log.specs.Passed.{IsSamePassed}
+use Rattle.reflect_core.specs.Source.{IsCutOf, copies_in, due_in, marked, passed_to, was_sent_if_due}
+use Rattle.reflect_core.proofs.CutLaws.{passed_is}
+use Rattle.update_encoder.specs.Answer.{answer_bytes}
 use Rattle.update_encoder.specs.Style.{Style}
-use Rattle.update_encoder.proofs.Counts.{count_spelled}
-use Rattle.joined_runs.specs.declared.rect_form.RectForm.{RectForm}
+use Rattle.viewer_session.specs.declared.form.AnswerForm.{AnswerForm}
 use Rattle.update_encoder.specs.Coming.{shown}
-use Rattle.update_encoder.specs.Written.{is_due_of}
+use Rattle.update_encoder.specs.Written.{is_still_due_of}
 use Rattle.update_encoder.proofs.CutLaws.{cut_is_answered}
 use Rattle.viewer_session.specs.Found.{answered_at, has_newer, is_newer, rings, told_or_answered, update_in, update_of}
 use Rattle.viewer_session.specs.Outgoing.{Sending, text_message}
 use Rattle.roles.specs.Held.{HeldStands}
 use Rattle.viewer_session.specs.Record.{Entry, MadeCut, events, format_of, choice_of, messages_in}
-use Rattle.viewer_session.specs.Turn.{asked_part, clipped_to, due_tile, due_tile_in, was_sent, all_were_sent, size_at, size_for, size_or_update, told_at, told_of, update_for, update_at, update_part, bell_at, newer_text, text_at, began_at, record_after_cut_as, style_of, Chosen, stream_after, with_chosen}
+use Rattle.viewer_session.specs.Turn.{asked_part, clipped_to, due_tile, due_tile_in, has_answer, passed_at, since_of, still_due, still_due_in, was_sent, all_were_sent, size_at, size_for, size_or_update, told_at, told_of, update_for, update_at, update_part, bell_at, newer_text, text_at, began_at, record_after_cut_as, style_of, Chosen, stream_after, with_chosen}
 use Rattle.viewer_session.specs.Turn as turn
 use Rattle.zrle_answer.specs.Written.{has_begun}
 use Rattle.viewer_session.specs.Chosen.{MayBeChosen}
 use Rattle.viewer_session.specs.Viewer.{Setup, Viewer, out_bytes, after_cut_as}
-use Rattle.viewer_session.specs.Session.{State, Serves, Relays, Stands, Greets, Keeps, CutsAt, HasCounted, IsGreeting, at_rest, hello_of, is_greeted, is_ready, fault_in, asked_now, style_now, told_now}
+use Rattle.viewer_session.specs.Session.{State, Serves, Relays, Stands, Greets, Keeps, CutsAt, HasCounted, IsGreeting, at_rest, hello_of, is_greeted, is_ready, fault_in, asked_now, since_now, style_now, told_now}
 use Rattle.viewer_session.proofs.HelloLaws.{not_yet}
-use Rattle.viewer_session.proofs.SameRuns.{runs_same, all_same, any_same, no_run, not_zero}
+use Rattle.viewer_session.proofs.SameRuns.{runs_same, all_same, any_same, no_run}
 
 -- ---- how many rectangles an answer has
 
-same_count : (a b : ℕ) (xs ys : List ℕ) → a < 2 ^ 16 → b < 2 ^ 16 → update_head_bytes a ++ xs ≡ update_head_bytes b ++ ys → a ≡ b
-same_count a b xs ys la lb e = sym (from_be_bytes-to_be_bytes_2 a la) ∙ (ap (λ t. from_be_bytes w16 (take 2 (drop 2 t))) e ∙ from_be_bytes-to_be_bytes_2 b lb)
-
-abbrev found_in : cutting.Cut → Rect → List Rect
+abbrev pub found_in : cutting.Cut → Rect → List Rect
 found_in cut area = runs cut.width cut.height area (marked cut)
 
-count_is : (style : Style) (cut : cutting.Cut) (area : Rect) (count : ℕ) (rest : List ℕ) → count < 2 ^ 16 → IsScreenSize cut.width cut.height
-    → update_head_bytes count ++ rest ≡ answer_bytes style (shown cut) cut.all_were_sent (found_in cut area) → count ≡ length (found_in cut area)
-count_is style cut area count rest few size e =
-    let spelled : List (List ℕ) = all_spelled style (shown cut) (style.choice.copy && cut.all_were_sent) None (found_in cut area) in
-    let long : length spelled ≡ length (found_in cut area) = count_spelled style (shown cut) (style.choice.copy && cut.all_were_sent) None (found_in cut area) in
-    let less : length (found_in cut area) < 2 ^ 16 = runs_few cut.width cut.height area (marked cut) size.wide.1 size.high.1 in
-    same_count count (length spelled) rest (flat_map (λ r. r) spelled) few (omega (arith, long, less)) e ∙ long
+-- The bytes of an answer to what was found in a cut.
+abbrev pub bytes_in : Style → cutting.Cut → Rect → List ℕ
+bytes_in style cut area = answer_bytes style (shown cut) (copies_in cut) cut.all_were_sent (found_in cut area)
 
--- It has none: there is no update.
-pub found_none : (style : Style) (cut : cutting.Cut) (area : Rect) (count : ℕ) (rest : List ℕ) → count < 2 ^ 16 → IsScreenSize cut.width cut.height
-    → update_head_bytes count ++ rest ≡ answer_bytes style (shown cut) cut.all_were_sent (found_in cut area) → count ≡ 0 → update_of style cut area ≡ None
-found_none style cut area count rest few size e none =
-    let bytes : List ℕ = answer_bytes style (shown cut) cut.all_were_sent (found_in cut area) in
-    ap (λ n. if n == 0 then None else Some (area, bytes)) (sym (count_is style cut area count rest few size e) ∙ none)
+-- There is neither a rectangle nor a copy.
+abbrev pub has_none : cutting.Cut → ℕ → Bool
+has_none cut count = (count == 0) && (length (copies_in cut) == 0)
 
--- It has some: they are the update.
-pub found_some : (style : Style) (cut : cutting.Cut) (area : Rect) (count : ℕ) (rest : List ℕ) → count < 2 ^ 16 → IsScreenSize cut.width cut.height
-    → update_head_bytes count ++ rest ≡ answer_bytes style (shown cut) cut.all_were_sent (found_in cut area) → (count ≡ 0 → ⊥) → update_of style cut area ≡ Some (area, update_head_bytes count ++ rest)
-found_some style cut area count rest few size e some =
-    let bytes : List ℕ = answer_bytes style (shown cut) cut.all_were_sent (found_in cut area) in
-    let is : count ≡ length (found_in cut area) = count_is style cut area count rest few size e in
-    ap (λ b. if b then None else Some (area, bytes)) (not_zero (length (found_in cut area)) (λ z. some (is ∙ z))) ∙ ap (λ (bs : List ℕ). Some (area, bs)) (sym e)
+-- Then there is no update.
+pub found_none : (style : Style) (cut : cutting.Cut) (area : Rect) (count : ℕ) → count ≡ length (found_in cut area) → has_none cut count ≡ true → update_of style cut area ≡ None
+found_none style cut area count counted none =
+    ap (λ b. if b then None else Some (area, bytes_in style cut area)) (sym (ap (has_none cut) counted) ∙ none)
+
+-- Otherwise they are the update.
+pub found_some : (style : Style) (cut : cutting.Cut) (area : Rect) (count : ℕ) (bytes : List ℕ) → count ≡ length (found_in cut area) → has_none cut count ≡ false → bytes ≡ bytes_in style cut area
+    → update_of style cut area ≡ Some (area, bytes)
+found_some style cut area count bytes counted some e =
+    ap (λ b. if b then None else Some (area, bytes_in style cut area)) (sym (ap (has_none cut) counted) ∙ some) ∙ ap (λ (bs : List ℕ). Some (area, bs)) (sym e)
 
 -- The same of what the code has at hand.
-pub none_at : (st now : State) (o : Option Rect) (area : Rect) (seen : cutting.Cut) (count : ℕ) (rest : List ℕ) → st ≡ now → o ≡ Some area → seen ≡ st.cut → count < 2 ^ 16 → IsScreenSize seen.width seen.height
-    → update_head_bytes count ++ rest ≡ answer_bytes (style_now st) (shown seen) seen.all_were_sent (found_in seen area) → count ≡ 0 → update_in (style_now now) now.cut o ≡ None
-none_at st now o area seen count rest same is there few size e none =
+pub none_at : (st now : State) (o : Option Rect) (area : Rect) (seen : cutting.Cut) (count : ℕ) → st ≡ now → o ≡ Some area → seen ≡ st.cut → count ≡ length (found_in seen area) → has_none seen count ≡ true
+    → update_in (style_now now) now.cut o ≡ None
+none_at st now o area seen count same is there counted none =
     sym (ap (λ (t : State). update_in (style_now t) t.cut o) same)
     ∙ (ap (update_in (style_now st) st.cut) is
-    ∙ (ap (λ (cut : cutting.Cut). update_of (style_now st) cut area) (sym there) ∙ found_none (style_now st) seen area count rest few size e none))
+    ∙ (ap (λ (cut : cutting.Cut). update_of (style_now st) cut area) (sym there) ∙ found_none (style_now st) seen area count counted none))
 
-pub some_at : (st now : State) (o : Option Rect) (area : Rect) (seen : cutting.Cut) (count : ℕ) (rest : List ℕ) → st ≡ now → o ≡ Some area → seen ≡ st.cut → count < 2 ^ 16 → IsScreenSize seen.width seen.height
-    → update_head_bytes count ++ rest ≡ answer_bytes (style_now st) (shown seen) seen.all_were_sent (found_in seen area) → (count ≡ 0 → ⊥)
-    → update_in (style_now now) now.cut o ≡ Some (area, update_head_bytes count ++ rest)
-some_at st now o area seen count rest same is there few size e some =
+pub some_at : (st now : State) (o : Option Rect) (area : Rect) (seen : cutting.Cut) (count : ℕ) (bytes : List ℕ) → st ≡ now → o ≡ Some area → seen ≡ st.cut → count ≡ length (found_in seen area) → has_none seen count ≡ false
+    → bytes ≡ bytes_in (style_now st) seen area → update_in (style_now now) now.cut o ≡ Some (area, bytes)
+some_at st now o area seen count bytes same is there counted some e =
     sym (ap (λ (t : State). update_in (style_now t) t.cut o) same)
     ∙ (ap (update_in (style_now st) st.cut) is
-    ∙ (ap (λ (cut : cutting.Cut). update_of (style_now st) cut area) (sym there) ∙ found_some (style_now st) seen area count rest few size e some))
+    ∙ (ap (λ (cut : cutting.Cut). update_of (style_now st) cut area) (sym there) ∙ found_some (style_now st) seen area count bytes counted some e))
 
 -- ---- the update at a cut is the one of the definitions
 
-twice : (m d : Bool) → (m && (m && d)) ≡ (m && d)
-twice true d = refl
-twice false d = refl
+-- What is met twice is met.
+met_once : (m l d : Bool) → (m && (l && (m && d))) ≡ (m && (l && d))
+met_once true l d = refl
+met_once false l d = refl
+
+neither : (a c : Bool) → (not a && c) ≡ not (not c || a)
+neither true true = refl
+neither true false = refl
+neither false true = refl
+neither false false = refl
 
 if_not : (b c : Bool) (x y : Rect × List ℕ) → b ≡ not c → x ≡ y → (if b then None else Some x) ≡ (if c then Some y else None)
 if_not b true x y e f = ap (λ t. if t then None else Some x) e ∙ ap (λ (t : Rect × List ℕ). Some t) f
@@ -106,53 +102,95 @@ if_not b false x y e f = ap (λ t. if t then None else Some x) e
 on_screen : (area : Rect) (w h v u : ℕ) → w ≡ v → h ≡ u → IsWithin area v u → IsWithin area w h
 on_screen area w h v u ew eh on = record { across = omega (arith, on.across, ew); down = omega (arith, on.down, eh) }
 
-update_same : (form : RectForm) (known : List Update) (n : ℕ) (area : Rect) (have : SentTiles) (cut : cutting.Cut) (entries : List Entry) (style : Style)
-    → IsCutOf known n area have cut → have.width ≡ cut.width → have.height ≡ cut.height → IsScreenSize cut.width cut.height → IsWithin area cut.width cut.height
+-- The tiles that a cut marks are those of the definitions that are still due, and its copies are those that are passed
+-- on.
+module _ (form : AnswerForm) (known : List Update) (n : ℕ) (area : Rect) (have : SentTiles) (cut : cutting.Cut) (entries : List Entry) (is : IsCutOf known n area have (since_of form have.width have.height entries) cut) (stood : HaveStands have (events have.width have.height entries)) where
+  abbrev w : ℕ
+  w = have.width
+
+  abbrev h : ℕ
+  h = have.height
+
+  abbrev seen : List Update
+  seen = take n known
+
+  abbrev since : Option ℕ
+  since = since_of form w h entries
+
+  same : IsSamePassed w h (passed_at form w h entries seen area) (passed_to have area since seen)
+  same = passed_is have area (events w h entries) since seen stood
+
+  pub copies_there : copies_in cut ≡ (passed_at form w h entries seen area).copies
+  copies_there = is.copies ∙ same.copies
+
+  pub marks_still : (t : ℕ) → t < tile_count w h → marked cut t ≡ ((passed_at form w h entries seen area).lacks t && due_tile_in w h entries seen area t)
+  marks_still t lt =
+      ap (λ (o : Option Bool). unwrap_or o false) (is.due t lt)
+      ∙ (ap (λ b. b && due_in have area seen t) (same.lacks t lt)
+      ∙ ap (λ (o : Option ℕ). (passed_at form w h entries seen area).lacks t && (meets area (tile_rect w h t) && is_due_since (tile_rect w h t) o seen)) (sent_at_stands have (events w h entries) t stood lt))
+
+  pub still_is : (t : ℕ) → t < tile_count w h → is_still_due_of have area since seen t ≡ still_due form w h entries seen area t
+  still_is t lt =
+      ap (λ b. b && is_due_since (tile_rect w h t) (sent_at have t) seen) (same.lacks t lt)
+      ∙ ap (λ (o : Option ℕ). (passed_at form w h entries seen area).lacks t && is_due_since (tile_rect w h t) o seen) (sent_at_stands have (events w h entries) t stood lt)
+
+  pub all_sent_is : cut.all_were_sent ≡ all_were_sent w h entries seen area
+  all_sent_is =
+      is.all_were_sent
+      ∙ all_same (was_sent_if_due have area seen) (λ t. not (due_tile_in w h entries seen area t) || was_sent w h entries t) (tile_count w h) 0
+      (λ t lo hi. ap (λ o. not (meets area (tile_rect w h t) && is_due_since (tile_rect w h t) o seen) || is_some o) (sent_at_stands have (events w h entries) t stood (omega (arith, hi))))
+
+update_same : (form : AnswerForm) (known : List Update) (n : ℕ) (area : Rect) (have : SentTiles) (cut : cutting.Cut) (entries : List Entry) (style : Style)
+    → IsCutOf known n area have (since_of form have.width have.height entries) cut → have.width ≡ cut.width → have.height ≡ cut.height → IsScreenSize cut.width cut.height → IsWithin area cut.width cut.height
     → HaveStands have (events have.width have.height entries) → style ≡ style_of form entries
     → update_of style cut area ≡ update_for form have.width have.height entries (take n known) (Some area)
 update_same form known n area have cut entries style is ew eh size on stood same =
     let w : ℕ = have.width in
     let h : ℕ = have.height in
     let us : List Update = take n known in
-    let due : ℕ → Bool = due_tile w h entries us in
-    let due_here : ℕ → Bool = due_tile_in w h entries us area in
+    let since : Option ℕ = since_of form w h entries in
+    let still : ℕ → Bool = still_due form w h entries us area in
+    let still_here : ℕ → Bool = still_due_in form w h entries us area in
+    let lacks : ℕ → Bool = (passed_at form w h entries us area).lacks in
+    let copies : List Paint = (passed_at form w h entries us area).copies in
     let all : Bool = all_were_sent w h entries us area in
-    let marks : (t : ℕ) → t < tile_count w h → marked cut t ≡ due_here t = λ t lt. ap (λ o. unwrap_or o false) (marks_due known n area have cut (events w h entries) stood is t lt) in
-    let due_is : (t : ℕ) → t < tile_count w h → is_due_of have us t ≡ due t = λ t lt. ap (λ o. is_due_since (tile_rect w h t) o us) (sent_at_stands have (events w h entries) t stood lt) in
-    let runs_are : runs cut.width cut.height area (is_due_of have us) ≡ runs w h area due =
-    ap (λ k. runs k cut.height area (is_due_of have us)) (sym ew) ∙ (ap (λ k. runs w k area (is_due_of have us)) (sym eh) ∙ runs_same w h area (is_due_of have us) due due_is) in
-    let all_is : cut.all_were_sent ≡ all =
-    is.all_were_sent
-    ∙ all_same (was_sent_if_due have area us) (λ t. not (due_here t) || was_sent w h entries t) (tile_count w h) 0
-    (λ t lo hi. ap (λ o. not (meets area (tile_rect w h t) && is_due_since (tile_rect w h t) o us) || is_some o) (sent_at_stands have (events w h entries) t stood (omega (arith, hi)))) in
-    let bytes : answer_bytes style (shown cut) cut.all_were_sent (found_in cut area) ≡ answer_bytes (style_of form entries) (screen us) all (runs w h area due) =
-    cut_is_answered known n area have cut style cut.all_were_sent is ew eh size on
-    ∙ (ap (answer_bytes style (screen us) cut.all_were_sent) runs_are
-    ∙ (ap (λ b. answer_bytes style (screen us) b (runs w h area due)) all_is
-    ∙ ap (λ (t : Style). answer_bytes t (screen us) all (runs w h area due)) same)) in
+    let copies_are : copies_in cut ≡ copies = copies_there form known n area have cut entries is stood in
+    let runs_are : runs cut.width cut.height area (is_still_due_of have area since us) ≡ runs w h area still =
+    ap (λ k. runs k cut.height area (is_still_due_of have area since us)) (sym ew)
+    ∙ (ap (λ k. runs w k area (is_still_due_of have area since us)) (sym eh) ∙ runs_same w h area (is_still_due_of have area since us) still (still_is form known n area have cut entries is stood)) in
+    let bytes : bytes_in style cut area ≡ answer_bytes (style_of form entries) (screen us) copies all (runs w h area still) =
+    cut_is_answered known n area have since cut style (copies_in cut) cut.all_were_sent is ew eh size on
+    ∙ (ap (answer_bytes style (screen us) (copies_in cut) cut.all_were_sent) runs_are
+    ∙ (ap (λ (cs : List Paint). answer_bytes style (screen us) cs cut.all_were_sent (runs w h area still)) copies_are
+    ∙ (ap (λ b. answer_bytes style (screen us) copies b (runs w h area still)) (all_sent_is form known n area have cut entries is stood)
+    ∙ ap (λ (t : Style). answer_bytes t (screen us) copies all (runs w h area still)) same))) in
     let found_are : found_in cut area ≡ runs w h area (marked cut) = ap (λ k. runs k cut.height area (marked cut)) (sym ew) ∙ ap (λ k. runs w k area (marked cut)) (sym eh) in
-    let test : (length (found_in cut area) == 0) ≡ not (list_any due_here (range_with_len 0 (tile_count w h))) =
+    let some : Bool = list_any still_here (range_with_len 0 (tile_count w h)) in
+    let no_rectangle : (length (found_in cut area) == 0) ≡ not some =
     ap (λ rs. length rs == 0) found_are
     ∙ (no_run w h area (marked cut) (omega (arith, size.wide, ew)) (omega (arith, size.high, eh)) (on_screen area w h cut.width cut.height ew eh on)
     ∙ ap not
-    (any_same (λ t. meets area (tile_rect w h t) && marked cut t) due_here (tile_count w h) 0
-    (λ t lo hi. ap (λ b. meets area (tile_rect w h t) && b) (marks t (omega (arith, hi))) ∙ twice (meets area (tile_rect w h t)) (due t)))) in
-    if_not (length (found_in cut area) == 0) (list_any due_here (range_with_len 0 (tile_count w h))) (area, answer_bytes style (shown cut) cut.all_were_sent (found_in cut area))
-    (area, answer_bytes (style_of form entries) (screen us) all (runs w h area due)) test (ap (λ (bs : List ℕ). (area, bs)) bytes)
+    (any_same (λ t. meets area (tile_rect w h t) && marked cut t) still_here (tile_count w h) 0
+    (λ t lo hi. ap (λ b. meets area (tile_rect w h t) && b) (marks_still form known n area have cut entries is stood t (omega (arith, hi))) ∙ met_once (meets area (tile_rect w h t)) (lacks t) (due_tile w h entries us t)))) in
+    let test : has_none cut (length (found_in cut area)) ≡ not (has_answer form w h entries us area) =
+    ap (λ b. b && (length (copies_in cut) == 0)) no_rectangle
+    ∙ (ap (λ (cs : List Paint). not some && (length cs == 0)) copies_are ∙ neither some (length copies == 0)) in
+    if_not (has_none cut (length (found_in cut area))) (has_answer form w h entries us area) (area, bytes_in style cut area)
+    (area, answer_bytes (style_of form entries) (screen us) copies all (runs w h area still)) test (ap (λ (bs : List ℕ). (area, bs)) bytes)
 
 -- The same over a screen of w by h.
-update_on : (form : RectForm) (w h : ℕ) (known : List Update) (n : ℕ) (area : Rect) (have : SentTiles) (cut : cutting.Cut) (entries : List Entry) (style : Style)
-    → have.width ≡ w → have.height ≡ h → IsCutOf known n area have cut → have.width ≡ cut.width → have.height ≡ cut.height → IsScreenSize cut.width cut.height → IsWithin area cut.width cut.height
+update_on : (form : AnswerForm) (w h : ℕ) (known : List Update) (n : ℕ) (area : Rect) (have : SentTiles) (cut : cutting.Cut) (entries : List Entry) (style : Style)
+    → have.width ≡ w → have.height ≡ h → IsCutOf known n area have (since_of form w h entries) cut → have.width ≡ cut.width → have.height ≡ cut.height → IsScreenSize cut.width cut.height → IsWithin area cut.width cut.height
     → HaveStands have (events w h entries) → style ≡ style_of form entries
     → update_of style cut area ≡ update_for form w h entries (take n known) (Some area)
 update_on form w h known n area have cut entries style v u is ew eh size on stood same =
-    let Same : ℕ → ℕ → Type 0 = λ x y. HaveStands have (events x y entries) → update_of style cut area ≡ update_for form x y entries (take n known) (Some area) in
-    let here : Same have.width have.height = λ k. update_same form known n area have cut entries style is ew eh size on k same in
-    subst (λ y. Same w y) u (subst (λ x. Same x have.height) v here) stood
+    let Same : ℕ → ℕ → Type 0 = λ x y. IsCutOf known n area have (since_of form x y entries) cut → HaveStands have (events x y entries) → update_of style cut area ≡ update_for form x y entries (take n known) (Some area) in
+    let here : Same have.width have.height = λ c k. update_same form known n area have cut entries style c ew eh size on k same in
+    subst (λ y. Same w y) u (subst (λ x. Same x have.height) v here) is stood
 
 -- What is known of a state and a cut that was made for it.
 pub record IsCutFor (st : State) (cut : cutting.Cut) (nowhere : Rect) (known : List Update) (n : ℕ) : Type 0 where
-  pub is : IsCutOf known n (unwrap_or (asked_now st) nowhere) st.have cut
+  pub is : IsCutOf known n (unwrap_or (asked_now st) nowhere) st.have (since_now st) cut
   pub width : st.width ≡ cut.width
   pub height : st.height ≡ cut.height
   pub have_width : st.have.width ≡ st.width
@@ -160,15 +198,19 @@ pub record IsCutFor (st : State) (cut : cutting.Cut) (nowhere : Rect) (known : L
   pub size : IsScreenSize cut.width cut.height
   pub within : IsWithin (unwrap_or (asked_now st) nowhere) cut.width cut.height
 
-pub same_style : (st : State) (form : RectForm) (entries : List Entry) → st.runs ≡ form → st.format ≡ format_of entries → st.choice ≡ choice_of entries → style_now st ≡ style_of form entries
-same_style st form entries e f g = λ i. record { runs = e i; format = f i; choice = g i }
+pub same_style : (st : State) (form : AnswerForm) (entries : List Entry) → st.form ≡ form → st.format ≡ format_of entries → st.choice ≡ choice_of entries → style_now st ≡ style_of form entries
+same_style st form entries e f g = λ i. record { runs = (e i).runs; format = f i; choice = g i }
+
+-- The number of the last answer, where copies may be passed on, is that of the definitions.
+pub since_is : (s : Setup) (st : State) (p : Viewer) → Serves s st p → since_now st ≡ since_of s.form s.w s.h p.entries
+since_is s st p k = λ i. if (k.form i).copies && (k.keeps.choice i).copy then k.keeps.asked.answered i else None
 
 update_by : (s : Setup) (st : State) (p : Viewer) (cut : cutting.Cut) (known : List Update) (n : ℕ) (nowhere : Rect) (area : Option Rect) → Serves s st p
-    → IsCutOf known n (unwrap_or area nowhere) st.have cut → st.width ≡ cut.width → st.height ≡ cut.height → st.have.width ≡ st.width → st.have.height ≡ st.height → IsScreenSize cut.width cut.height
-    → IsWithin (unwrap_or area nowhere) cut.width cut.height → update_in (style_now st) cut area ≡ update_for s.runs s.w s.h p.entries (take n known) area
+    → IsCutOf known n (unwrap_or area nowhere) st.have (since_now st) cut → st.width ≡ cut.width → st.height ≡ cut.height → st.have.width ≡ st.width → st.have.height ≡ st.height → IsScreenSize cut.width cut.height
+    → IsWithin (unwrap_or area nowhere) cut.width cut.height → update_in (style_now st) cut area ≡ update_for s.form s.w s.h p.entries (take n known) area
 update_by s st p cut known n nowhere None k is ew eh hw hh size on = refl
 update_by s st p cut known n nowhere (Some area) k is ew eh hw hh size on =
-    update_on s.runs s.w s.h known n area st.have cut p.entries (style_now st) (hw ∙ k.width) (hh ∙ k.height) is (hw ∙ ew) (hh ∙ eh) size on k.keeps.have (same_style st s.runs p.entries k.runs k.keeps.format k.keeps.choice)
+    update_on s.form s.w s.h known n area st.have cut p.entries (style_now st) (hw ∙ k.width) (hh ∙ k.height) (subst (λ o. IsCutOf known n area st.have o cut) (since_is s st p k) is) (hw ∙ ew) (hh ∙ eh) size on k.keeps.have (same_style st s.form p.entries k.form k.keeps.format k.keeps.choice)
 
 -- The size that the viewer was told, and the area that it asked for inside it, are those of the definitions.
 told_is : (s : Setup) (st : State) (p : Viewer) → Serves s st p → told_now st ≡ told_of s.w s.h p.entries
@@ -184,10 +226,10 @@ size_is s st p last us k e = λ i. size_for (k.width i) (k.height i) (k.host i) 
 
 -- The update that a session finds in a cut is the one of the definitions.
 pub update_is : (s : Setup) (st : State) (p : Viewer) (cut : cutting.Cut) (known : List Update) (n : ℕ) (nowhere : Rect) → Serves s st p → IsCutFor st cut nowhere known n
-    → update_in (style_now st) cut (asked_now st) ≡ update_at s.runs s.w s.h p.entries (take n known)
+    → update_in (style_now st) cut (asked_now st) ≡ update_at s.form s.w s.h p.entries (take n known)
 update_is s st p cut known n nowhere k c =
     update_by s st p cut known n nowhere (asked_now st) k c.is c.width c.height c.have_width c.have_height c.size c.within
-    ∙ ap (update_for s.runs s.w s.h p.entries (take n known)) (asked_is s st p k)
+    ∙ ap (update_for s.form s.w s.h p.entries (take n known)) (asked_is s st p k)
 
 -- ---- news
 
@@ -291,20 +333,19 @@ greeting_done (Some g) out now done k =
     record { short = k.short; said = λ wants. absurd (let open_ : is_some (whole_of (ahead g)) ≡ false = not_yet (ahead g) wants in cc) }
 
 serves_cut : (s : Setup) (st : State) (p : Viewer) (us : List Update) (chosen : Option Chosen) (told : Option Size) (wanted : Wanted) (have : SentTiles) (cut : cutting.Cut) (piece bytes : List ℕ) (begun : Bool) → Serves s st p → is_ready st ≡ true
-    → turn.sent_as chosen s.runs s.w s.h s.host p.entries us ≡ bytes → begun ≡ has_begun (stream_after chosen p.stream)
-    → Keeps s.w s.h (record st { told = told; asked = wanted; have = have; cut = cut; piece = piece; unsent = bytes; begun = begun }) (record_after_cut_as chosen s.runs s.w s.h s.host p.entries us)
+    → turn.sent_as chosen s.form s.w s.h s.host p.entries us ≡ bytes → begun ≡ has_begun (stream_after chosen p.stream)
+    → Keeps s.w s.h (record st { told = told; asked = wanted; have = have; cut = cut; piece = piece; unsent = bytes; begun = begun }) (record_after_cut_as chosen s.form s.w s.h s.host p.entries us)
     → Serves s (record st { told = told; asked = wanted; have = have; cut = cut; piece = piece; unsent = bytes; begun = begun }) (after_cut_as s us chosen p)
 serves_cut s st p us chosen told wanted have cut piece bytes begun k ready e streams keeps =
     let none : length st.unsent ≡ 0 = sent_all st ready in
-    let sent : List ℕ = turn.sent_as chosen s.runs s.w s.h s.host p.entries us in
+    let sent : List ℕ = turn.sent_as chosen s.form s.w s.h s.host p.entries us in
     let over : length (drop p.written (out_bytes s p)) ≡ 0 = ap length (sym k.unsent) ∙ none in
     let out : out_bytes s (after_cut_as s us chosen p) ≡ out_bytes s p ++ sent = sym (append_assoc (hello_bytes s p) p.said_after sent) in
     record {
       width = k.width;
       height = k.height;
-      runs = k.runs;
+      form = k.form;
       host = k.host;
-      zrle = k.zrle;
       role = k.role;
       rests = rests_cut s us chosen p k.rests;
       greets = greets_cut s st.greeting p.greet p.hello p.said p.said_after (p.said_after ++ sent) (greeted_ready st ready) k.greets;
@@ -329,7 +370,7 @@ relays_cut s st p us chosen told wanted have cut piece bytes begun k =
     record {
       waiting = k.waiting;
       keys = k.keys;
-      held = subst (λ ms. HeldStands st.role st.held ms) (sym (messages_began (length us) (size_at s.w s.h s.host p.entries us) (with_chosen chosen (update_at s.runs s.w s.h p.entries us)) p.entries)) k.held;
+      held = subst (λ ms. HeldStands st.role st.held ms) (sym (messages_began (length us) (size_at s.w s.h s.host p.entries us) (with_chosen chosen (update_at s.form s.w s.h p.entries us)) p.entries)) k.held;
     }
 
 -- ---- the record after it
@@ -390,10 +431,10 @@ last_is : (n number : ℕ) (o : Option ℕ) → o ≡ Some n → o ≡ Some numb
 last_is n number o e f = cc
 
 tells : (s : Setup) (es : List Entry) (us : List Update) (chosen : Option Chosen)
-    → turn.sent_as chosen s.runs s.w s.h s.host es us
-    ≡ bell_at us (last_cut (events s.w s.h es)) ++ (text_at us (last_cut (events s.w s.h es)) ++ size_or_update (size_at s.w s.h s.host es us) (with_chosen chosen (update_at s.runs s.w s.h es us)))
+    → turn.sent_as chosen s.form s.w s.h s.host es us
+    ≡ bell_at us (last_cut (events s.w s.h es)) ++ (text_at us (last_cut (events s.w s.h es)) ++ size_or_update (size_at s.w s.h s.host es us) (with_chosen chosen (update_at s.form s.w s.h es us)))
 tells s es us chosen =
-    append_assoc (bell_at us (last_cut (events s.w s.h es))) (text_at us (last_cut (events s.w s.h es))) (size_or_update (size_at s.w s.h s.host es us) (with_chosen chosen (update_at s.runs s.w s.h es us)))
+    append_assoc (bell_at us (last_cut (events s.w s.h es))) (text_at us (last_cut (events s.w s.h es))) (size_or_update (size_at s.w s.h s.host es us) (with_chosen chosen (update_at s.form s.w s.h es us)))
 
 -- A cut, and what of it begins to be sent.
 pub turned : {S : Type 0} (cuts : S → ℕ → S → Type 0) (before after : S) (st now : State) (known : List Update) (least most n : ℕ) (cut : cutting.Cut) (nowhere : Rect) (size told : Option Size) (wanted : Wanted) (have : SentTiles) (bell text : Bool) (update piece bytes : List ℕ) (begun : Bool)
@@ -422,18 +463,18 @@ turned cuts before after st now known least most n cut nowhere size told wanted 
           let k : Serves s st p = both.serves in
           let known_bells : HasCounted st known = subst (λ (t : State). HasCounted t known) (sym same) counted in
           let count : length us ≡ n = count_taken n known c.is.known in
-          let update_there : here ≡ update_at s.runs s.w s.h p.entries us = update_is s st p cut known n nowhere k c in
+          let update_there : here ≡ update_at s.form s.w s.h p.entries us = update_is s st p cut known n nowhere k c in
           let size_there : size ≡ size_at s.w s.h s.host p.entries us = sized ∙ size_is s st p cut.host_size us k c.is.size in
           let sent : Sends s us p here size begun update = sends s p k in
           let chosen : Option Chosen = sent.chosen in
-          let both_there : size_or_update size (with_chosen chosen here) ≡ size_or_update (size_at s.w s.h s.host p.entries us) (with_chosen chosen (update_at s.runs s.w s.h p.entries us)) =
+          let both_there : size_or_update size (with_chosen chosen here) ≡ size_or_update (size_at s.w s.h s.host p.entries us) (with_chosen chosen (update_at s.form s.w s.h p.entries us)) =
           ap (λ o. size_or_update o (with_chosen chosen here)) size_there ∙ ap (λ o. size_or_update (size_at s.w s.h s.host p.entries us) (with_chosen chosen o)) update_there in
           let last_there : st.asked.last ≡ last_cut (events s.w s.h p.entries) = k.keeps.asked.last in
           let bells_there : (if bell then bell_bytes else []) ≡ bell_at us (last_cut (events s.w s.h p.entries)) =
           ap (λ b. if b then bell_bytes else []) rung ∙ (bell_is st.asked.last st.cut.bells cut.bells known n c.is.bells known_bells ∙ ap (bell_at us) last_there) in
           let text_there : (if text then text_message cut.text else []) ≡ text_at us (last_cut (events s.w s.h p.entries)) =
           ap (λ b. if b then text_message cut.text else []) newer ∙ (text_is st.asked.last cut.text us c.is.text ∙ ap (text_at us) last_there) in
-          let bytes_there : bytes ≡ turn.sent_as chosen s.runs s.w s.h s.host p.entries us =
+          let bytes_there : bytes ≡ turn.sent_as chosen s.form s.w s.h s.host p.entries us =
           e
           ∙ (ap (λ t. t ++ ((if text then text_message cut.text else []) ++ update)) bells_there
           ∙ (ap (λ t. bell_at us (last_cut (events s.w s.h p.entries)) ++ (t ++ update)) text_there
@@ -441,10 +482,10 @@ turned cuts before after st now known least most n cut nowhere size told wanted 
           let new : State = record st { told = told; asked = wanted; have = have; cut = cut; piece = piece; unsent = bytes; begun = begun } in
           let kept : Keeps s.w s.h new (told_at n size (with_chosen chosen here) (MadeCut n ∷ p.entries)) =
           keeps_chosen s.w s.h n new (MadeCut n ∷ p.entries) size here chosen (keeps_cut s.w s.h n st p.entries size here told wanted have cut piece bytes begun k.keeps says asked has) in
-          let record_is : told_at n size (with_chosen chosen here) (MadeCut n ∷ p.entries) ≡ record_after_cut_as chosen s.runs s.w s.h s.host p.entries us =
+          let record_is : told_at n size (with_chosen chosen here) (MadeCut n ∷ p.entries) ≡ record_after_cut_as chosen s.form s.w s.h s.host p.entries us =
           ap (λ o. told_at n o (with_chosen chosen here) (MadeCut n ∷ p.entries)) size_there
           ∙ (ap (λ u. told_at n (size_at s.w s.h s.host p.entries us) (with_chosen chosen u) (MadeCut n ∷ p.entries)) update_there
-          ∙ ap (λ m. told_at m (size_at s.w s.h s.host p.entries us) (with_chosen chosen (update_at s.runs s.w s.h p.entries us)) (MadeCut m ∷ p.entries)) (sym count)) in
+          ∙ ap (λ m. told_at m (size_at s.w s.h s.host p.entries us) (with_chosen chosen (update_at s.form s.w s.h p.entries us)) (MadeCut m ∷ p.entries)) (sym count)) in
           record {
             chosen = chosen;
             may_be = sent.may_be;

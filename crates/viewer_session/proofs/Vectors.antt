@@ -6,13 +6,14 @@ use Rattle.pixel_format.specs.PixelFormat.{PixelFormat, host_format}
 use Rattle.raster.specs.declared.rect.Rect.{Rect}
 use Rattle.raster.specs.declared.size.Size.{Size}
 use Rattle.raster.specs.declared.encoding.Encoding.TheVariants.{Raw, Rre, Hextile}
-use Rattle.raster.specs.Update.{Update, Paints, Put, Resized, of_paints}
+use Rattle.raster.specs.Update.{Update, Paints, Put, Copy, Resized, of_paints}
 use Rattle.raster.specs.Update as update
 use Rattle.joined_runs.specs.declared.rect_form.RectForm.TheVariants.{OfRows, Joined}
 use Rattle.rfb_wire.specs.ClientMessage.{SetPixelFormat, SetEncodings, Ask, Key}
 use Rattle.rfb_wire.specs.ServerMessage.{FramebufferUpdate, ServerCutText}
 use Rattle.rfb_wire.specs.ServerMessage as server
 use Rattle.update_encoder.specs.Follower as follower
+use Rattle.viewer_session.specs.declared.form.AnswerForm.{AnswerForm}
 use Rattle.viewer_session.specs.Record.{Entry, Took, Saw, MadeCut, Began, ToldSize, choice_of, format_of, messages_in, received}
 use Rattle.viewer_session.specs.Turn.{has_reason, all_were_sent, size_at, told_of, update_at, sent_at, record_after_cut}
 use Rattle.viewer_session.specs.Stream.{Format, Bytes, heard, stream_of, listener}
@@ -97,6 +98,12 @@ request_beside_the_screen = refl
 -- ---- the update of a cut
 
 -- On 17 by 17 in RRE: a part of the first tile; then all, since that tile counts as never sent; then nothing is due.
+abbrev of_rows : AnswerForm
+of_rows = record { runs = OfRows; zrle = false; copies = false }
+
+abbrev joined : AnswerForm
+joined = record { runs = Joined; zrle = false; copies = false }
+
 abbrev corner : List ℕ
 corner = 0 ∷ 0 ∷ 0 ∷ 1 ∷ 0 ∷ 0 ∷ 0 ∷ 0 ∷ 0 ∷ 8 ∷ 0 ∷ 8 ∷ 0 ∷ 0 ∷ 0 ∷ 2 ∷ 0 ∷ 0 ∷ 0 ∷ 0 ∷ 0 ∷ 0 ∷ 0 ∷ 0 ∷ []
 
@@ -108,20 +115,20 @@ both_rows =
 abbrev after_corner : List Entry
 after_corner = asks true 17 17 ∷ Began (rect 0 0 8 8) 0 corner ∷ MadeCut 0 ∷ Saw 0 ∷ asks false 8 8 ∷ rre ∷ []
 
-pub corner_is_sent : update_at OfRows 17 17 (Saw 0 ∷ asks false 8 8 ∷ rre ∷ []) [] ≡ Some (rect 0 0 8 8, corner)
+pub corner_is_sent : update_at of_rows 17 17 (Saw 0 ∷ asks false 8 8 ∷ rre ∷ []) [] ≡ Some (rect 0 0 8 8, corner)
 corner_is_sent = refl
 
-pub then_all_is_sent : update_at OfRows 17 17 after_corner [] ≡ Some (rect 0 0 17 17, both_rows)
+pub then_all_is_sent : update_at of_rows 17 17 after_corner [] ≡ Some (rect 0 0 17 17, both_rows)
 then_all_is_sent = refl
 
-pub then_nothing : update_at OfRows 17 17 (asks true 17 17 ∷ Began (rect 0 0 17 17) 0 both_rows ∷ MadeCut 0 ∷ after_corner) [] ≡ None
+pub then_nothing : update_at of_rows 17 17 (asks true 17 17 ∷ Began (rect 0 0 17 17) 0 both_rows ∷ MadeCut 0 ∷ after_corner) [] ≡ None
 then_nothing = refl
 
 -- On 33 by 1 an update touches the first tile and the last: two runs, the first in RRE, the second Raw.
 abbrev two_blues : Update
 two_blues = Paints None (Put (rect 0 0 1 1) (0x0000FF ∷ []) ∷ Put (rect 32 0 1 1) (0x0000FF ∷ []) ∷ [])
 
-pub two_runs_are_sent : update_at OfRows 33 1 (asks true 33 1 ∷ Began (rect 0 0 33 1) 0 [] ∷ MadeCut 0 ∷ asks false 33 1 ∷ rre ∷ []) (two_blues ∷ [])
+pub two_runs_are_sent : update_at of_rows 33 1 (asks true 33 1 ∷ Began (rect 0 0 33 1) 0 [] ∷ MadeCut 0 ∷ asks false 33 1 ∷ rre ∷ []) (two_blues ∷ [])
     ≡ Some (
       rect 0 0 33 1,
       (0 ∷ 0 ∷ 0 ∷ 2 ∷ []) ++ (0 ∷ 0 ∷ 0 ∷ 0 ∷ 0 ∷ 16 ∷ 0 ∷ 1 ∷ 0 ∷ 0 ∷ 0 ∷ 2 ∷ 0 ∷ 0 ∷ 0 ∷ 1 ∷ 255 ∷ 0 ∷ 0 ∷ 0 ∷ [])
@@ -129,11 +136,36 @@ pub two_runs_are_sent : update_at OfRows 33 1 (asks true 33 1 ∷ Began (rect 0 
     )
 two_runs_are_sent = refl
 
+-- On 32 by 1 the host copies two pixels of the first tile into the second. To a viewer that takes CopyRect and was
+-- answered before, the copy is all that is sent; a viewer that is passed none is sent the tile.
+abbrev passing : AnswerForm
+passing = record { runs = OfRows; zrle = false; copies = true }
+
+abbrev blue_tile : Update
+blue_tile = Paints None (Put (rect 0 0 1 1) (0x0000FF ∷ []) ∷ [])
+
+abbrev to_the_right : Update
+to_the_right = Paints None (Copy (rect 16 0 2 1) 0 0 ∷ [])
+
+abbrev after_blue : List Entry
+after_blue = asks true 32 1 ∷ Began (rect 0 0 32 1) 1 [] ∷ MadeCut 1 ∷ asks false 32 1 ∷ Took (SetEncodings (record { kind = Rre; copy = true; resizes = false; zrle = false })) ∷ []
+
+pub copy_is_passed_on : update_at passing 32 1 after_blue (blue_tile ∷ to_the_right ∷ [])
+    ≡ Some (rect 0 0 32 1, 0 ∷ 0 ∷ 0 ∷ 1 ∷ 0 ∷ 16 ∷ 0 ∷ 0 ∷ 0 ∷ 2 ∷ 0 ∷ 1 ∷ 0 ∷ 0 ∷ 0 ∷ 1 ∷ 0 ∷ 0 ∷ 0 ∷ 0 ∷ [])
+copy_is_passed_on = refl
+
+pub copy_is_sent_as_a_tile : update_at of_rows 32 1 after_blue (blue_tile ∷ to_the_right ∷ [])
+    ≡ Some (
+      rect 0 0 32 1,
+      (0 ∷ 0 ∷ 0 ∷ 1 ∷ []) ++ (0 ∷ 16 ∷ 0 ∷ 0 ∷ 0 ∷ 16 ∷ 0 ∷ 1 ∷ 0 ∷ 0 ∷ 0 ∷ 2 ∷ 0 ∷ 0 ∷ 0 ∷ 1 ∷ 255 ∷ 0 ∷ 0 ∷ 0 ∷ []) ++ 0 ∷ 0 ∷ 0 ∷ 0 ∷ 0 ∷ 1 ∷ 0 ∷ 0 ∷ 0 ∷ 15 ∷ 0 ∷ 1 ∷ [],
+    )
+copy_is_sent_as_a_tile = refl
+
 -- On 8 by 2 with joined runs: the first column is blue, and the black runs to its right are one subrectangle.
 abbrev blue_column : Update
 blue_column = Paints None (Put (rect 0 0 1 2) (0x0000FF ∷ 0x0000FF ∷ []) ∷ [])
 
-pub joined_runs_are_sent : update_at Joined 8 2 (asks false 8 2 ∷ rre ∷ []) (blue_column ∷ [])
+pub joined_runs_are_sent : update_at joined 8 2 (asks false 8 2 ∷ rre ∷ []) (blue_column ∷ [])
     ≡ Some (
       rect 0 0 8 2,
       (0 ∷ 0 ∷ 0 ∷ 1 ∷ []) ++ (0 ∷ 0 ∷ 0 ∷ 0 ∷ 0 ∷ 8 ∷ 0 ∷ 2 ∷ 0 ∷ 0 ∷ 0 ∷ 2 ∷ []) ++ (0 ∷ 0 ∷ 0 ∷ 1 ∷ 255 ∷ 0 ∷ 0 ∷ 0 ∷ [])
@@ -167,30 +199,30 @@ four = update.Bell ∷ update.Cut (0x48 ∷ 0x69 ∷ []) ∷ update.Bell ∷ red
 
 -- The first cut sends neither Bell nor text; a later one sends one Bell, then the text, then the update; where they
 -- aren't newer, the update alone.
-pub first_cut : sent_at OfRows 2 1 None (asks false 2 1 ∷ []) four ≡ red_blue_bytes
+pub first_cut : sent_at of_rows 2 1 None (asks false 2 1 ∷ []) four ≡ red_blue_bytes
 first_cut = refl
 
-pub later_cut : sent_at OfRows 2 1 None (asks true 2 1 ∷ MadeCut 0 ∷ []) four ≡ (2 ∷ []) ++ hi ++ red_blue_bytes
+pub later_cut : sent_at of_rows 2 1 None (asks true 2 1 ∷ MadeCut 0 ∷ []) four ≡ (2 ∷ []) ++ hi ++ red_blue_bytes
 later_cut = refl
 
-pub text_was_told : sent_at OfRows 2 1 None (asks true 2 1 ∷ MadeCut 2 ∷ []) four ≡ (2 ∷ []) ++ red_blue_bytes
+pub text_was_told : sent_at of_rows 2 1 None (asks true 2 1 ∷ MadeCut 2 ∷ []) four ≡ (2 ∷ []) ++ red_blue_bytes
 text_was_told = refl
 
-pub all_was_told : sent_at OfRows 2 1 None (asks true 2 1 ∷ MadeCut 3 ∷ []) four ≡ red_blue_bytes
+pub all_was_told : sent_at of_rows 2 1 None (asks true 2 1 ∷ MadeCut 3 ∷ []) four ≡ red_blue_bytes
 all_was_told = refl
 
 -- They need no area.
-pub news_alone : sent_at OfRows 2 1 None (MadeCut 1 ∷ []) four ≡ (2 ∷ []) ++ hi
+pub news_alone : sent_at of_rows 2 1 None (MadeCut 1 ∷ []) four ≡ (2 ∷ []) ++ hi
 news_alone = refl
 
 -- What is written down of it: the cut, and an answer where there is one.
 abbrev answered : List Entry
 answered = Began (rect 0 0 2 1) 4 red_blue_bytes ∷ MadeCut 4 ∷ asks true 2 1 ∷ MadeCut 0 ∷ Took (Key true 0x61) ∷ []
 
-pub answer_is_recorded : record_after_cut OfRows 2 1 None (asks true 2 1 ∷ MadeCut 0 ∷ Took (Key true 0x61) ∷ []) four ≡ answered
+pub answer_is_recorded : record_after_cut of_rows 2 1 None (asks true 2 1 ∷ MadeCut 0 ∷ Took (Key true 0x61) ∷ []) four ≡ answered
 answer_is_recorded = refl
 
-pub cut_is_recorded : record_after_cut OfRows 2 1 None (MadeCut 1 ∷ []) four ≡ MadeCut 4 ∷ MadeCut 1 ∷ []
+pub cut_is_recorded : record_after_cut of_rows 2 1 None (MadeCut 1 ∷ []) four ≡ MadeCut 4 ∷ MadeCut 1 ∷ []
 cut_is_recorded = refl
 
 pub messages_in_order : messages_in answered ≡ Key true 0x61 ∷ Ask true (rect 0 0 2 1) ∷ []
@@ -211,10 +243,10 @@ takes_sizes = Took (SetEncodings (record { kind = Raw; copy = false; resizes = t
 abbrev tells_one : List ℕ
 tells_one = 0 ∷ 0 ∷ 0 ∷ 1 ∷ 0 ∷ 0 ∷ 0 ∷ 0 ∷ 0 ∷ 1 ∷ 0 ∷ 1 ∷ 255 ∷ 255 ∷ 255 ∷ 0x21 ∷ []
 
-pub size_is_told : sent_at OfRows 2 1 (Some (size 1 1)) (asks false 2 1 ∷ takes_sizes ∷ []) [] ≡ tells_one
+pub size_is_told : sent_at of_rows 2 1 (Some (size 1 1)) (asks false 2 1 ∷ takes_sizes ∷ []) [] ≡ tells_one
 size_is_told = refl
 
-pub size_is_recorded : record_after_cut OfRows 2 1 (Some (size 1 1)) (asks false 2 1 ∷ takes_sizes ∷ []) [] ≡ ToldSize (size 1 1) 0 tells_one ∷ MadeCut 0 ∷ asks false 2 1 ∷ takes_sizes ∷ []
+pub size_is_recorded : record_after_cut of_rows 2 1 (Some (size 1 1)) (asks false 2 1 ∷ takes_sizes ∷ []) [] ≡ ToldSize (size 1 1) 0 tells_one ∷ MadeCut 0 ∷ asks false 2 1 ∷ takes_sizes ∷ []
 size_is_recorded = refl
 
 -- It isn't told twice, to a viewer that doesn't take sizes, where nothing is asked for, or where no sizes are told.
@@ -244,14 +276,14 @@ pub room_was_told : size_at 2 1 (Some (size 3 3)) (asks false 2 1 ∷ takes_size
 room_was_told = refl
 
 -- After it the viewer is answered of as much of its area as lies in that size, also once it takes no sizes any longer.
-pub inside_the_size : update_at OfRows 2 1 (asks true 2 1 ∷ ToldSize (size 1 1) 0 tells_one ∷ takes_sizes ∷ []) (red_blue ∷ [])
+pub inside_the_size : update_at of_rows 2 1 (asks true 2 1 ∷ ToldSize (size 1 1) 0 tells_one ∷ takes_sizes ∷ []) (red_blue ∷ [])
     ≡ Some (rect 0 0 1 1, 0 ∷ 0 ∷ 0 ∷ 1 ∷ 0 ∷ 0 ∷ 0 ∷ 0 ∷ 0 ∷ 1 ∷ 0 ∷ 1 ∷ 0 ∷ 0 ∷ 0 ∷ 0 ∷ 0 ∷ 0 ∷ 255 ∷ 0 ∷ [])
 inside_the_size = refl
 
 pub size_stays_told : told_of 2 1 (rre ∷ Saw 3 ∷ ToldSize (size 1 1) 0 tells_one ∷ takes_sizes ∷ []) ≡ size 1 1
 size_stays_told = refl
 
-pub then_nothing_inside_it : update_at OfRows 2 1 (asks true 2 1 ∷ Began (rect 0 0 1 1) 1 [] ∷ MadeCut 1 ∷ ToldSize (size 1 1) 0 tells_one ∷ takes_sizes ∷ []) (red_blue ∷ []) ≡ None
+pub then_nothing_inside_it : update_at of_rows 2 1 (asks true 2 1 ∷ Began (rect 0 0 1 1) 1 [] ∷ MadeCut 1 ∷ ToldSize (size 1 1) 0 tells_one ∷ takes_sizes ∷ []) (red_blue ∷ []) ≡ None
 then_nothing_inside_it = refl
 
 -- ---- a viewer that reads the stream

@@ -1,35 +1,34 @@
 -- Answers whose bytes a session chose, and what a viewer that follows all its answers holds (RFC 6143, 7.6, 7.7; own).
 use Rattle.std.specs.Prelude.{◌≡◌, ℕ, Bool, true, ◌&&◌, List, ◌∷◌, take, Option, Some, None}
-use Rattle.std.specs.List.{list_any, range_with_len}
 use Rattle.raster.specs.declared.rect.Rect.{Rect}
-use Rattle.raster.specs.Screen.{tile_count}
 use Rattle.raster.specs.Update.{Update, screen}
-use Rattle.joined_runs.specs.declared.rect_form.RectForm.{RectForm}
 use Rattle.tiles.specs.Brings.{BringTheDue}
 use Rattle.update_encoder.specs.Follower.{HoldsArea}
 use Rattle.zrle_answer.specs.Rectangle.{ZlibStream}
 use Rattle.zrle_answer.specs.Answer.{ZrleStyle, IsAnswer}
 use Rattle.zrle_answer.specs.Follower.{ZrleFollower, FollowsAll, at_first}
+use Rattle.viewer_session.specs.declared.form.AnswerForm.{AnswerForm}
 use Rattle.viewer_session.specs.Record.{Entry, Began, choice_of, received}
-use Rattle.viewer_session.specs.Turn.{Chosen, all_were_sent, asked_part, due_tile, due_tile_in, size_at, style_of}
+use Rattle.viewer_session.specs.Turn.{Chosen, all_were_sent, asked_part, has_answer, passed_at, size_at, still_due, style_of}
 use Rattle.viewer_session.specs.Viewer.{Setup}
 
 -- How answers may be written whose bytes are chosen: in ZRLE, too.
-abbrev pub zrle_style_of : RectForm → List Entry → ZrleStyle
+abbrev pub zrle_style_of : AnswerForm → List Entry → ZrleStyle
 zrle_style_of form entries = record { plain = style_of form entries; may_zrle = true }
 
 -- A session may choose the bytes of its answer at a cut of these updates. Viewers may be answered in ZRLE, and this one
--- would rather have it; an answer is due and no size is told; and these bytes are an answer of rectangles that bring
--- what is due in the area, as the screen shows it, and lead the viewer's zlib stream on.
+-- would rather have it; there is something to be answered and no size is told; and these bytes are an answer of the
+-- copies that are passed on, and of rectangles that bring what is still due in the area, as the screen shows it, and
+-- lead the viewer's zlib stream on.
 pub record IsChosen (s : Setup) (us : List Update) (entries : List Entry) (before : ZlibStream) (chosen : Chosen) : Type 0 where
-  pub heeded : (s.zrle && (choice_of entries).zrle) ≡ true
+  pub heeded : (s.form.zrle && (choice_of entries).zrle) ≡ true
   pub untold : size_at s.w s.h s.host entries us ≡ None
   pub area : Rect
   pub asked : asked_part s.w s.h entries ≡ Some area
-  pub due : list_any (due_tile_in s.w s.h entries us area) (range_with_len 0 (tile_count s.w s.h)) ≡ true
+  pub due : has_answer s.form s.w s.h entries us area ≡ true
   pub rectangles : List Rect
-  pub brings : BringTheDue s.w s.h area (due_tile s.w s.h entries us) rectangles
-  pub answers : IsAnswer (zrle_style_of s.runs entries) (screen us) (all_were_sent s.w s.h entries us area) rectangles before chosen.bytes chosen.stream
+  pub brings : BringTheDue s.w s.h area (still_due s.form s.w s.h entries us area) rectangles
+  pub answers : IsAnswer (zrle_style_of s.form entries) (screen us) (passed_at s.form s.w s.h entries us area).copies (all_were_sent s.w s.h entries us area) rectangles before chosen.bytes chosen.stream
 
 -- What was chosen may be, if anything was.
 abbrev pub MayBeChosen : Setup → List Update → List Entry → ZlibStream → Option Chosen → Type 0

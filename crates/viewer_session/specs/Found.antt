@@ -6,9 +6,8 @@ use Rattle.raster.specs.Update.{NumberedText}
 use Rattle.tiles.specs.Touched.{Event, Answered, NewSize, runs}
 use Rattle.reflect_core.specs.declared.cut.Cut.{Cut}
 use Rattle.update_encoder.specs.Answer.{answer_bytes}
-use Rattle.reflect_core.specs.Source.{marked}
-use Rattle.rfb_wire.specs.Writing.{update_head_bytes}
-use Rattle.update_encoder.specs.Coming.{Answering, coming, shown}
+use Rattle.reflect_core.specs.Source.{copies_in, marked}
+use Rattle.update_encoder.specs.Coming.{Answering, coming, front_bytes, shown}
 use Rattle.update_encoder.specs.Style.{Style}
 use Rattle.zrle_answer.specs.Written.{IsWholeOf}
 use Rattle.viewer_session.specs.Session.{State, style_now}
@@ -30,11 +29,13 @@ abbrev pub has_newer : Option ℕ → Option NumberedText → Bool
 has_newer None text = false
 has_newer (Some number) text = is_newer number text
 
--- The update of an area at a cut: the runs of the tiles that it marks, if there are any.
+-- The update of an area at a cut: the copies that it passes on, and the runs of the tiles that it marks, if there are
+-- any of these.
 abbrev pub update_of : Style → Cut → Rect → Option (Rect × List ℕ)
 update_of style cut area =
     let found = runs cut.width cut.height area (marked cut) in
-    if length found == 0 then None else Some (area, answer_bytes style (shown cut) cut.all_were_sent found)
+    let copies = copies_in cut in
+    if (length found == 0) && (length copies == 0) then None else Some (area, answer_bytes style (shown cut) copies cut.all_were_sent found)
 
 -- The update of the area that is pending, if one is.
 abbrev pub update_in : Style → Cut → Option Rect → Option (Rect × List ℕ)
@@ -55,12 +56,12 @@ told_or_answered number (Some size) found es = NewSize size ∷ es
 -- The bytes of an answer that is begun, where one is (7.6.1).
 abbrev pub begun_bytes : Option Answering → Cut → List ℕ
 begun_bytes None cut = []
-begun_bytes (Some answer) cut = update_head_bytes answer.count ++ coming answer cut
+begun_bytes (Some answer) cut = front_bytes (copies_in cut) answer.count ++ coming answer cut
 
 -- The viewer may be answered in ZRLE and would rather be, and these bytes are a whole answer for the area at the last
 -- cut.
 pub record IsWholeAnswer (st : State) (begun : Bool) (area : Rect) (bytes : List ℕ) : Type 0 where
-  pub heeded : (st.zrle && st.choice.zrle) ≡ true
+  pub heeded : (st.form.zrle && st.choice.zrle) ≡ true
   pub whole : IsWholeOf (style_now st) st.cut area st.begun begun bytes
 
 -- An answer that was begun is sent as it was begun; or, where it was written whole, so.

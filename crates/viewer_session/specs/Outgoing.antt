@@ -2,9 +2,10 @@
 use Rattle.std.specs.Prelude.{◌≡◌, ℕ, ◌≤◌, ◌+◌, ◌*◌, Bool, true, max, if◌then◌else◌, is_some, List, [], ◌++◌, length, Option, Some, None, IfSome}
 use Rattle.raster.specs.declared.size.Size.{Size}
 use Rattle.raster.specs.Update.{NumberedText}
-use Rattle.rfb_wire.specs.Writing.{server_text_bytes, size_bytes, update_head_bytes}
+use Rattle.rfb_wire.specs.Writing.{server_text_bytes, size_bytes}
 use Rattle.reflect_core.specs.declared.cut.Cut.{Cut}
-use Rattle.update_encoder.specs.Coming.{AnswerStands, coming}
+use Rattle.reflect_core.specs.Source.{copies_in}
+use Rattle.update_encoder.specs.Coming.{AnswerStands, coming, front_bytes}
 use Rattle.viewer_session.specs.declared.update.Update.{Update}
 use Rattle.viewer_session.specs.declared.update.Update.TheVariants.{Runs, Whole}
 use Rattle.viewer_session.specs.declared.coming.Coming as declared
@@ -26,11 +27,11 @@ abbrev pub text_message : Option NumberedText → List ℕ
 text_message None = []
 text_message (Some last) = server_text_bytes last.text
 
--- What is still to come of an answer: its header, unless that was put out already, and its rectangles (7.6.1); or all
--- that is left of one that was written whole.
+-- What is still to come of an answer: its header and copies, unless these were put out already, and its rectangles
+-- (7.6.1); or all that is left of one that was written whole.
 abbrev pub answer_coming : Bool → Option Update → Cut → List ℕ
 answer_coming head None cut = []
-answer_coming head (Some (Runs answer)) cut = (if head then update_head_bytes answer.count else []) ++ coming answer cut
+answer_coming head (Some (Runs answer)) cut = (if head then front_bytes (copies_in cut) answer.count else []) ++ coming answer cut
 answer_coming head (Some (Whole left)) cut = left
 
 -- It is an answer that was begun at this cut, or was written whole.

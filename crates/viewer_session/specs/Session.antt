@@ -6,7 +6,6 @@ use Rattle.byte_reading.specs.Reading.{Reading, Done, whole_of, fault_of, wants_
 use Rattle.raster.specs.declared.rect.Rect.{Rect}
 use Rattle.raster.specs.declared.size.Size.{Size}
 use Rattle.raster.specs.Size.{IsScreenSize}
-use Rattle.joined_runs.specs.declared.rect_form.RectForm.{RectForm}
 use Rattle.raster.specs.Update.{Update, bells}
 use Rattle.rfb_wire.specs.declared.client_reader.ClientReader.{ClientReader}
 use Rattle.rfb_wire.specs.ClientReader.{ahead}
@@ -23,6 +22,7 @@ use Rattle.tiles.specs.Touched.{told_last}
 use Rattle.reflect_core.specs.Asked.{Wanted, AskedStands}
 use Rattle.reflect_core.specs.declared.cut.Cut.{Cut}
 use Rattle.update_encoder.specs.Style.{Style}
+use Rattle.viewer_session.specs.declared.form.AnswerForm.{AnswerForm}
 use Rattle.viewer_session.specs.Outgoing.{Sending}
 use Rattle.viewer_session.specs.Record.{Entry, Took, Saw, events, format_of, choice_of, messages_in}
 use Rattle.zrle_answer.specs.Written.{has_begun}
@@ -31,17 +31,16 @@ use Rattle.viewer_session.specs.Turn.{Chosen, clipped_to, size_for}
 use Rattle.viewer_session.specs.Viewer as viewer
 use Rattle.viewer_session.specs.Viewer.{Setup, Viewer, out_bytes, new_viewer, with_input, after_bytes, after_cut_as}
 
--- The size of the screen, the form in which the viewer is answered, the size of the host's screen at first where the
--- viewer is told of sizes, whether it may be answered in ZRLE, its role, its hello where it has one, what has come of its next message, the pixel format
--- and the choice of encodings that hold, the size that it was told after its hello, what it has asked for, what it has
--- of each tile, the last cut, the piece that is sent next, all unsent bytes for it, what it holds down, its input that
--- waits, and whether its zlib stream has begun.
+-- The size of the screen, how the viewer is answered, the size of the host's screen at first where the viewer is told
+-- of sizes, its role, its hello where it has one, what has come of its next message, the pixel format and the choice of
+-- encodings that hold, the size that it was told after its hello, what it has asked for, what it has of each tile, the
+-- last cut, the piece that is sent next, all unsent bytes for it, what it holds down, its input that waits, and whether
+-- its zlib stream has begun.
 pub record State : Type 0 where
   pub width : ℕ
   pub height : ℕ
-  pub runs : RectForm
+  pub form : AnswerForm
   pub host : Option Size
-  pub zrle : Bool
   pub role : Role
   pub greeting : Option Greeting
   pub reader : ClientReader
@@ -107,7 +106,7 @@ is_ready st = (length st.unsent == 0) && (is_greeted st && is_none (fault_in st)
 
 -- How the session's next answer is written.
 abbrev pub style_now : State → Style
-style_now st = record { runs = st.runs; format = st.format; choice = st.choice }
+style_now st = record { runs = st.form.runs; format = st.format; choice = st.choice }
 
 -- The size that the viewer was told last.
 abbrev pub told_now : State → Size
@@ -116,6 +115,10 @@ told_now st = unwrap_or st.told (record { width = st.width; height = st.height }
 -- The pending area, as far as it lies in that size.
 abbrev pub asked_now : State → Option Rect
 asked_now st = clipped_to (told_now st) st.asked.area
+
+-- The number of the viewer's last answer, where copies of the host may be passed on to it.
+abbrev pub since_now : State → Option ℕ
+since_now st = if st.form.copies && st.choice.copy then st.asked.answered else None
 
 -- The size that the viewer is told at this cut, if it is told one.
 abbrev pub size_now : State → Option Size
@@ -159,9 +162,8 @@ HasKeptShort message = Unit {0}
 pub record Serves (s : Setup) (st : State) (p : Viewer) : Type 0 where
   pub width : st.width ≡ s.w
   pub height : st.height ≡ s.h
-  pub runs : st.runs ≡ s.runs
+  pub form : st.form ≡ s.form
   pub host : st.host ≡ s.host
-  pub zrle : st.zrle ≡ s.zrle
   pub role : p.role ≡ st.role
   pub rests : p ≡ at_rest p
   pub greets : Greets s st.greeting p.greet p.hello p.said p.said_after

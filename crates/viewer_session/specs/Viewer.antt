@@ -4,27 +4,25 @@ use Rattle.fault.specs.declared.kinds.Fault.{Fault}
 use Rattle.byte_reading.specs.Reading.{Reading, Done, Faulty, Want, step, fault_of, whole_of, wants_more}
 use Rattle.raster.specs.declared.size.Size.{Size}
 use Rattle.raster.specs.Update.{Update}
-use Rattle.joined_runs.specs.declared.rect_form.RectForm.{RectForm}
 use Rattle.rfb_wire.specs.ClientMessage.{ClientMessage, CutText, client_message, without_text}
 use Rattle.rfb_wire.specs.Handshake.{viewer_hello, said_to_viewer}
 use Rattle.roles.specs.declared.role.Role.{Role}
 use Rattle.roles.specs.Allowed.{Input, passes, keys_after}
 use Rattle.roles.specs.Held.{input_for}
+use Rattle.viewer_session.specs.declared.form.AnswerForm.{AnswerForm}
 use Rattle.viewer_session.specs.Record.{Entry, Took}
 use Rattle.zrle_answer.specs.Rectangle.{ZlibStream}
 use Rattle.viewer_session.specs.Turn.{Chosen, sent_as, stream_after, record_after_cut_as}
 
--- A screen of w by h with a name, room for this many inputs in the queue to the host, the form in which viewers are
--- answered, where they are told of the sizes of the host's screen the size that this has at first, and whether those
--- that would rather have ZRLE may be answered in it.
+-- A screen of w by h with a name, room for this many inputs in the queue to the host, how viewers are answered, and,
+-- where they are told of the sizes of the host's screen, the size that this has at first.
 pub record Setup : Type 0 where
   pub w : ℕ
   pub h : ℕ
   pub name : List ℕ
   pub room : ℕ
-  pub runs : RectForm
+  pub form : AnswerForm
   pub host : Option Size
-  pub zrle : Bool
 
 -- One viewer, from the moment at which it joins.
 pub record Viewer : Type 0 where
@@ -130,8 +128,8 @@ abbrev pub after_cut_as : Setup → List Update → Option Chosen → Viewer →
 after_cut_as s us chosen p =
     record p {
       looked = None;
-      said_after = p.said_after ++ sent_as chosen s.runs s.w s.h s.host p.entries us;
-      entries = record_after_cut_as chosen s.runs s.w s.h s.host p.entries us;
+      said_after = p.said_after ++ sent_as chosen s.form s.w s.h s.host p.entries us;
+      entries = record_after_cut_as chosen s.form s.w s.h s.host p.entries us;
       stream = stream_after chosen p.stream;
     }
 

@@ -10,14 +10,15 @@ use raster::Size;
 use reflect_core::Cut;
 
 /// What a cut still sends after the piece: its text where that is news, then the size that the viewer is told, and then
-/// an answer: its header, and one rectangle after another, or what is left of it where it was written whole.
+/// an answer: its front, which is its header and copies, and one rectangle after another, or what is left of it where
+/// it was written whole.
 #[derive(Drop)]
 pub(crate) struct Coming {
     /// Whether the text of the cut comes.
     pub(crate) text: bool,
     /// The size that the viewer is told, if it is told one.
     pub(crate) size: Option<Size>,
-    /// Whether the header of the answer comes.
+    /// Whether the front of the answer comes.
     pub(crate) head: bool,
     /// The answer, if there is one.
     pub(crate) answer: Option<Update>,
@@ -86,7 +87,7 @@ impl Coming {
             }
             Some(Update::Runs(answer)) if self.head => {
                 self.head = false;
-                piece.put_update_head(answer.count());
+                piece.put_front(answer, cut);
             }
             Some(Update::Runs(answer)) => piece.put_rectangle(answer, cut, strip),
         }

@@ -38,9 +38,9 @@ impl Compressor {
         self.writer.as_mut()
     }
 
-    /// An answer of what a cut shows in the due tiles of an area, for a viewer whose zlib stream has `begun` or has not,
-    /// behind whether it has begun after the answer. There is none where memory is refused, where most of the answer
-    /// wouldn't be in ZRLE, or where it has more than `LONGEST_WHOLE` bytes.
+    /// An answer of what a cut shows in the due tiles of an area, for a viewer whose zlib stream has `begun` or has
+    /// not, behind whether it has begun after the answer. There is none where memory is refused, where most of the
+    /// answer wouldn't be in ZRLE, or where it has more than `LONGEST_WHOLE` bytes.
     pub(crate) fn write(
         &mut self,
         cut: &Cut,

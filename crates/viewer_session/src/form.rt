@@ -9,4 +9,6 @@ pub struct AnswerForm {
     pub runs: RectForm,
     /// Whether a viewer that would rather have ZRLE is answered in it (RFC 6143, 7.7.6).
     pub zrle: bool,
+    /// Whether copies of the host are passed on to a viewer that takes CopyRect (RFC 6143, 7.7.2).
+    pub copies: bool,
 }

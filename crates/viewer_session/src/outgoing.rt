@@ -115,12 +115,14 @@ impl Outgoing {
         self.piece.append(bytes);
     }
 
-    /// Cuts the source, once all bytes were sent. Nothing of the cut waits to be sent until `begin` is called.
+    /// Cuts the source, once all bytes were sent. `since` is the number of the viewer's last answer, where copies of
+    /// the host may be passed on to it. Nothing of the cut waits to be sent until `begin` is called.
     pub(crate) fn take<S: ScreenSource>(
         &mut self,
         source: &mut S,
         area: &Rect,
         have: &Have,
+        since: Option<u64>,
     ) -> Result<u64, Fault>
         requires sent { length self.old.unsent ≡ 0 }
         requires within { IsWithin area.now (S.width source.old) (S.height source.old) }
@@ -134,14 +136,14 @@ impl Outgoing {
             × (self.new.cut.height ≡ self.old.cut.height) }
         ensures sent { (self.new.piece ≡ []) × (self.new.unsent ≡ []) }
         ensures grows { Begins (S.known source.old) (S.known source.new) }
-        ensures ok { IfOk result (λ n. IsCutOf (S.known source.new) n area.now have.now self.new.cut
+        ensures ok { IfOk result (λ n. IsCutOf (S.known source.new) n area.now have.now since self.new.cut
             × (S.answered source.old ≤ n) × (n ≤ S.answered source.new)) }
         ensures cuts { IfOk result (λ n. S.cuts source.old n source.new) }
         ensures err { IfErr result (λ fault.
             (fault ≡ Gone) × S.may_end × (source.new ≡ source.old) × (self.new ≡ self.old)) }
     {
         self.coming = Coming::nothing();
-        source.cut(area, have, &mut self.cut)
+        source.cut(area, have, since, &mut self.cut)
     }
 
     /// From now on these parts of the cut wait to be sent, in this order, and nothing else: a Bell, the text, a size

@@ -4,14 +4,15 @@ ghost use Rattle.std.specs.Prelude.{◌≡◌, ℕ, ◌+◌, ◌-◌, ◌*◌, �
 ghost use Rattle.fault.specs.declared.kinds.Fault.TheVariants.{Memory};
 ghost use Rattle.fault.specs.declared.limits.TheConstants.{LONGEST_TEXT};
 ghost use Rattle.raster.specs.declared.tile.TheConstants.{TILE_SIDE};
-ghost use Rattle.rfb_wire.specs.Writing.{bell_bytes, server_text_bytes, size_bytes, update_head_bytes};
-ghost use Rattle.update_encoder.specs.Coming.{AnswerStands, coming};
+ghost use Rattle.reflect_core.specs.Source.{copies_in};
+ghost use Rattle.rfb_wire.specs.Writing.{bell_bytes, server_text_bytes, size_bytes};
+ghost use Rattle.update_encoder.specs.Coming.{AnswerStands, coming, front_bytes};
 
 use crate::update::Whole;
 use fault::Fault;
 use raster::Size;
 use reflect_core::Cut;
-use rfb_wire::{write_bell, write_server_text, write_size, write_update_head};
+use rfb_wire::{write_bell, write_server_text, write_size};
 use std::alloc::Global;
 use std::marker::Model;
 use update_encoder::Answer;
@@ -130,14 +131,15 @@ impl Piece {
         self.sent = 0;
     }
 
-    /// The header of an update of this many rectangles waits from now on, and nothing else (RFC 6143, 7.6.1).
-    pub(crate) fn put_update_head(&mut self, rectangles: u64)
-        requires few { rectangles < 65536 }
-        requires room { 4 ≤ self.old.room }
+    /// The front of an answer waits from now on, and nothing else: its header, and the copies that its cut passes on
+    /// (RFC 6143, 7.6.1 and 7.7.2).
+    pub(crate) fn put_front(&mut self, answer: &Answer, cut: &Cut)
+        requires room { 1028 ≤ self.old.room }
         ensures room { self.new.room ≡ self.old.room }
-        ensures unsent { self.new.unsent ≡ update_head_bytes rectangles }
+        ensures unsent { self.new.unsent ≡ front_bytes (copies_in cut.now) answer.now.count }
+        ensures some { 4 ≤ length self.new.unsent }
     {
-        self.filled = write_update_head(rectangles as u16, self.bytes.as_mut_slice());
+        self.filled = answer.write_front(cut, self.bytes.as_mut_slice());
         self.sent = 0;
     }
 

@@ -43,11 +43,9 @@ use tiles::Have;
 pub struct Session {
     width: u64,
     height: u64,
-    runs: RectForm,
+    form: AnswerForm,
     // The size of the host's screen at first, where the viewer is told of sizes.
     host: Option<Size>,
-    // Whether the viewer may be answered in ZRLE.
-    zrle: bool,
     role: Role,
     hello: Option<ViewerHello>,
     reader: ClientReader,
@@ -78,9 +76,8 @@ impl Model for Session {
     ghost view = { λ s. record {
       width = s.width;
       height = s.height;
-      runs = s.runs;
+      form = s.form;
       host = s.host;
-      zrle = s.zrle;
       role = s.role;
       greeting = s.hello;
       reader = s.reader;
@@ -119,7 +116,7 @@ impl Session {
         ensures size { IfOk result (λ session. (session.width ≡ w) × (session.height ≡ h)) }
         ensures uncut { IfOk result (λ session. session.asked.last ≡ None) }
         ensures stands { IfOk result (λ session. (s : Setup) → s.w ≡ w → s.h ≡ h → s.name ≡ name.now
-            → s.runs ≡ form.runs → s.host ≡ host → s.zrle ≡ form.zrle
+            → s.form ≡ form → s.host ≡ host
             → Stands s session (new_viewer role true)) }
         ensures err { IfErr result (λ fault. fault ≡ Memory) }
     {
@@ -131,7 +128,8 @@ impl Session {
 
     /// A session of a viewer whose handshake is done, over a screen of `w` by `h` pixels, which is answered in this
     /// form. It is told of the sizes of the host's screen, of which `host` is the first, where there is one. All the
-    /// room that it needs is taken here, but for what answers in ZRLE take. It fails where memory is refused (`Memory`).
+    /// room that it needs is taken here, but for what answers in ZRLE take. It fails where memory is refused
+    /// (`Memory`).
     pub fn ready(
         alloc: Global,
         w: u64,
@@ -144,7 +142,7 @@ impl Session {
         ensures size { IfOk result (λ session. (session.width ≡ w) × (session.height ≡ h)) }
         ensures uncut { IfOk result (λ session. session.asked.last ≡ None) }
         ensures stands { IfOk result (λ session. (s : Setup) → s.w ≡ w → s.h ≡ h
-            → s.runs ≡ form.runs → s.host ≡ host → s.zrle ≡ form.zrle
+            → s.form ≡ form → s.host ≡ host
             → Stands s session (new_viewer role false)) }
         ensures err { IfErr result (λ fault. fault ≡ Memory) }
     {
@@ -169,8 +167,8 @@ impl Session {
         ensures size { IfOk result (λ session. (session.width ≡ w) × (session.height ≡ h)) }
         ensures uncut { IfOk result (λ session. session.asked.last ≡ None) }
         ensures stands { IfOk result (λ session.
-            (s : Setup) (greet : Bool) → s.w ≡ w → s.h ≡ h → s.runs ≡ form.runs
-            → s.host ≡ host → s.zrle ≡ form.zrle → IsBegun s role greet hello out
+            (s : Setup) (greet : Bool) → s.w ≡ w → s.h ≡ h → s.form ≡ form
+            → s.host ≡ host → IsBegun s role greet hello out
             → Stands s session (new_viewer role greet)) }
         ensures err { IfErr result (λ fault. fault ≡ Memory) }
     {
@@ -178,9 +176,8 @@ impl Session {
         Ok(Session {
             width: w,
             height: h,
-            runs: form.runs,
+            form,
             host,
-            zrle: form.zrle,
             role,
             hello,
             reader: ClientReader::new(alloc),
@@ -318,8 +315,8 @@ impl Session {
     /// runs, in Hextile without ZRLE, and in a format that keeps colours apart; shared parts where they are in ZRLE. No
     /// clause speaks of it.
     pub fn wants(&self) -> Wanted {
-        let in_zrle = self.zrle && self.choice.zrle;
-        let uses_forms = self.runs == RectForm::Joined
+        let in_zrle = self.form.zrle && self.choice.zrle;
+        let uses_forms = self.form.runs == RectForm::Joined
             && self.choice.kind == Encoding::Hextile
             && !in_zrle
             && self.format.keeps_apart();

@@ -10,7 +10,7 @@ ghost use Rattle.tiles.specs.Touched.{Event, NewSize, WasCut, told_last};
 ghost use Rattle.update_encoder.specs.Coming.{AnswerStands};
 ghost use Rattle.viewer_session.specs.Found.{IsSentAs, IsWholeAnswer, answered_at, begun_bytes, has_newer, rings, told_or_answered, update_in};
 ghost use Rattle.viewer_session.specs.Outgoing.{IsSmall, IsUpdateOf, size_and};
-ghost use Rattle.viewer_session.specs.Session.{HasOnlyLooked, IsSameViewer, asked_now, is_ready, wants_cut, size_now, style_now, told_now, CutsAt, Turns};
+ghost use Rattle.viewer_session.specs.Session.{HasOnlyLooked, IsSameViewer, asked_now, is_ready, since_now, wants_cut, size_now, style_now, told_now, CutsAt, Turns};
 ghost use Rattle.viewer_session.specs.Turn.{size_or_update, update_part};
 
 use super::Session;
@@ -66,6 +66,17 @@ impl Session {
         Some(area.clip(told.width, told.height))
     }
 
+    /// The number of the viewer's last answer, where copies of the host may be passed on to it.
+    fn since(&self) -> Option<u64>
+        ensures { result ≡ since_now self.now }
+    {
+        if self.form.copies && self.choice.copy {
+            self.asked.last_answer()
+        } else {
+            None
+        }
+    }
+
     /// The size of the host's screen at the cut, if the viewer is told it now.
     fn new_size(&self) -> Option<Size>
         ensures value { result ≡ size_now self.now }
@@ -82,8 +93,8 @@ impl Session {
         is_new.then_some(now)
     }
 
-    /// The answer for this area at the cut, where a tile of the area is due. Then no area is pending any longer, and
-    /// each tile of which all that the viewer knows of lies inside the area counts as sent.
+    /// The answer for this area at the cut, where it passes on a copy, or a tile of the area is still due. Then no area
+    /// is pending any longer, and each tile of which all that the viewer knows of lies inside the area counts as sent.
     fn answer(&mut self, area: Option<Rect>, number: u64) -> Option<Answer>
         requires { LiesOn self.old.cut.width self.old.cut.height area }
         ensures others { self.new
@@ -102,15 +113,15 @@ impl Session {
     {
         let area = area?;
         let style = Style {
-            runs: self.runs,
+            runs: self.form.runs,
             format: self.format,
             choice: self.choice,
         };
         let answer = Answer::start(self.out.cut(), &area, style);
-        if answer.count() == 0 {
+        if answer.is_empty(self.out.cut()) {
             return None;
         }
-        self.asked.answered();
+        self.asked.answered(number);
         self.have.keep(&area, self.told, number);
         self.answers = self.answers.saturating_add(1);
         Some(answer)
@@ -127,7 +138,7 @@ impl Session {
             → HaveStands self.new.have (NewSize size ∷ es) }
     {
         self.told = Some(size);
-        self.asked.answered();
+        self.asked.resized();
         self.have.forget_all();
     }
 
@@ -208,11 +219,11 @@ impl Session {
         ensures some { IfSome result (IsWholeAnswer self.old self.new.begun area.now) }
         ensures none { IfNone result (self.new.begun ≡ self.old.begun) }
     {
-        if !(self.zrle && self.choice.zrle) {
+        if !(self.form.zrle && self.choice.zrle) {
             return None;
         }
         let style = Style {
-            runs: self.runs,
+            runs: self.form.runs,
             format: self.format,
             choice: self.choice,
         };
@@ -243,8 +254,8 @@ impl Session {
     /// The second half of a turn, after a look that replied `looked`. Where there is reason the source is cut, and what
     /// the cut brings begins to be sent: one Bell where Bells have become more since the last cut, the text where it is
     /// newer, and, where an area is pending, the host's size if the viewer takes sizes and was told another, or else an
-    /// answer for that area where a tile of it is due. The first cut brings neither Bell nor text. The call answers
-    /// whether anything is begun.
+    /// answer for that area: the copies of the host that are passed on, and the tiles that are still due behind them,
+    /// where there are any. The first cut brings neither Bell nor text. The call answers whether anything is begun.
     ///
     /// It takes memory for an answer in ZRLE alone, and where that is refused the answer is written without. It fails
     /// where a source that may end has ended (`Gone`); then session and source are as they were.
@@ -271,7 +282,10 @@ impl Session {
         let area = self.asked_part();
         let last = self.asked.last_cut();
         let bells = self.out.cut().bells;
-        let number = self.out.take(source, &area.unwrap_or(NOWHERE), &self.have)?;
+        let since = self.since();
+        let number = self
+            .out
+            .take(source, &area.unwrap_or(NOWHERE), &self.have, since)?;
         self.asked.was_cut(number);
         let news = news_of(self.out.cut(), last, bells);
         let (size, answer) = self.begin_answer(area, number);

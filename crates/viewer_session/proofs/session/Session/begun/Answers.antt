@@ -5,14 +5,13 @@ use Rattle.viewer_session.proofs.Relaying.{nothing_held}
 use Rattle.viewer_session.proofs.session.Session.begun.Goals as goal
 
 pub returns-clause-stands : goal.returns-clause-stands
-returns-clause-stands c = λ s greet ew eh en ef ez b.
+returns-clause-stands c = λ s greet ew eh en ef b.
     record {
       serves = record {
         width = sym ew;
         height = sym eh;
-        runs = sym en;
+        form = sym en;
         host = sym ef;
-        zrle = sym ez;
         role = refl;
         rests = refl;
         greets = b.greets;

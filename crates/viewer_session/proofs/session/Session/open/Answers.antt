@@ -15,5 +15,5 @@ returns-clause-stands c =
     let first = said_first c.args.w c.args.h c.args.name.now c.new-hello.result c.say.new.hello c.new-hello.ensures c.say.ensures.hello in
     let unsent : c.say.new.out.unsent ≡ version = c.say.ensures.unsent ∙ (ap (λ u. u ++ to_send c.new-hello.result) c.in_ok-out.ensures.empty.2 ∙ ap to_send c.new-hello.ensures) in
     IfOk-weaker c.begun.result _ _
-    (λ session stands s w h name runs host zrle. stands s true w h runs host zrle (subst (λ (g : Greeting). IsBegun s c.args.role true (Some g) c.say.new.out) (sym first) (opens s c.args.role c.args.w c.args.h c.args.name.now c.say.new.out w h name unsent)))
+    (λ session stands s w h name form host. stands s true w h form host (subst (λ (g : Greeting). IsBegun s c.args.role true (Some g) c.say.new.out) (sym first) (opens s c.args.role c.args.w c.args.h c.args.name.now c.say.new.out w h name unsent)))
     c.begun.ensures.stands

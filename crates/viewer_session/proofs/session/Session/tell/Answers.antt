@@ -5,4 +5,4 @@ use Rattle.viewer_session.proofs.session.Session.tell.Goals as goal
 
 pub returns-clause-asked : goal.returns-clause-asked
 returns-clause-asked c = λ es stands.
-    c.answered.ensures.resized c.args.size es (subst (λ (w : Wanted). AskedStands w es) (sym (ap (λ (st : State). st.asked) c.self.view_is)) stands)
+    c.resized.ensures.stands c.args.size es (subst (λ (w : Wanted). AskedStands w es) (sym (ap (λ (st : State). st.asked) c.self.view_is)) stands)

@@ -11,7 +11,7 @@ use Rattle.reflect_core.specs.Source.{IsCutOf}
 use Rattle.reflect_core.specs.declared.cut.Cut.{Cut}
 use Rattle.viewer_session.specs.Found.{begun_bytes, has_newer, rings, told_or_answered, update_in}
 use Rattle.viewer_session.specs.Outgoing.{answer_coming, size_and, text_message}
-use Rattle.viewer_session.specs.Session.{State, CutsAt, asked_now, is_greeted, hello_of, size_now, style_now, told_now}
+use Rattle.viewer_session.specs.Session.{State, CutsAt, asked_now, is_greeted, hello_of, since_now, size_now, style_now, told_now}
 use Rattle.viewer_session.specs.Turn.{size_for, size_or_update}
 use Rattle.viewer_session.specs.contracts.session.Session.{the_view}
 use Rattle.viewer_session.proofs.Parts.{cut_within}
@@ -77,7 +77,8 @@ returns-clause-cuts g c = λ reason.
     c.begin_answer-size.ensures.size ∙ ap (size_for st.width st.height st.host st.choice.resizes (told_now st) cut.host_size) c.was_cut.ensures.area in
     let cut_for : IsCutFor st cut nowhere known n =
     record {
-      is = subst (λ (r : Rect). IsCutOf known n r st.have cut) (c.unwrap_or.ensures ∙ ap (λ (o : Option Rect). unwrap_or o nowhere) area_is) ok.0;
+      is = subst (λ o. IsCutOf known n (unwrap_or (asked_now st) nowhere) st.have o cut) (c.since-since.ensures ∙ ap since_now (sym c.self.view_is))
+          (subst (λ (r : Rect). IsCutOf known n r st.have c.since-since.result cut) (c.unwrap_or.ensures ∙ ap (λ (o : Option Rect). unwrap_or o nowhere) area_is) ok.0);
       width = sym (c.take.ensures.room.0 ∙ i.cut_size.0);
       height = sym (c.take.ensures.room.1 ∙ i.cut_size.1);
       have_width = i.have_size.0;
@@ -91,7 +92,7 @@ returns-clause-cuts g c = λ reason.
     (subst (λ (t : Cut). CutsAt g.S.ScreenSource.cuts c.args.source.now c.take.new.source now (record st { told = answer.told; asked = answer.asked; have = answer.have; cut = t; piece = piece; unsent = bytes; begun = started }) known least most) (sym begun)
     (turned g.S.ScreenSource.cuts c.args.source.now c.take.new.source st now known least most n cut nowhere size answer.told answer.asked answer.have bell text (size_and size (answer_coming true sent cut)) piece bytes started
     c.in_ok-number.ensures.cuts c.self.view_is c.requires.ready cut_for (ok.1, ok.2) rung newer sized
-    (λ s p k. sends s st answer p cut known n nowhere size found sent started c.asked_part-area.result k cut_for (ap (λ (t : State). t.cut) others) (ap (λ (t : State). t.zrle) others) (ap (λ (t : State). t.choice) others) (ap style_now others) (ap (λ (t : State). t.begun) others) sized c.begin_answer-size.ensures.alone part area_is c.compress-update.ensures.sent)
+    (λ s p k. sends s st answer p cut known n nowhere size found sent started c.asked_part-area.result k cut_for (ap (λ (t : State). t.cut) others) (ap (λ (t : State). t.form) others) (ap (λ (t : State). t.choice) others) (ap style_now others) (ap (λ (t : State). t.begun) others) sized c.begin_answer-size.ensures.alone part area_is c.compress-update.ensures.sent)
     (c.begin_answer-size.ensures.last ∙ c.was_cut.ensures.last)
     (λ es t. subst (λ (o : Option Rect). told_last (told_or_answered n size (update_in (style_now st) cut o) es) ≡ answer.told) area_is (c.begin_answer-size.ensures.told es t))
     (λ es a. subst (λ (o : Option Rect). AskedStands answer.asked (told_or_answered n size (update_in (style_now st) cut o) (WasCut n ∷ es))) area_is (c.begin_answer-size.ensures.asked (WasCut n ∷ es) (c.was_cut.ensures.stands es a)))
