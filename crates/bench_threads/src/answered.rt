@@ -75,7 +75,7 @@ fn once<P: Puts, S: ScreenSource, R: Clock>(
     let patch = brush.painted(TILE, 7).ok()?;
     let start = Instant::now(rt).ok()?;
     let put = puts.put(patch).is_ok();
-    let cut = source.cut(&ALL, &room.have, &mut room.cut).is_ok();
+    let cut = source.cut(&ALL, &room.have, None, &mut room.cut).is_ok();
     let answered = Instant::now(rt).ok()?;
     let bytes = piece.write(&room.cut);
     let answer = answered.elapsed(rt).ok()?.as_nanos();

@@ -102,7 +102,7 @@ pub fn cut<S: ScreenSource, R: Clock>(rt: &R, source: &mut S, room: &mut Room) -
     ensures { (S.width source.new ≡ 1920) × (S.height source.new ≡ 1080) }
 {
     let start = Instant::now(rt).ok()?;
-    let cut = source.cut(&ALL, &room.have, &mut room.cut);
+    let cut = source.cut(&ALL, &room.have, None, &mut room.cut);
     let time = start.elapsed(rt).ok()?.as_nanos();
     if cut.is_ok() { Some(time) } else { None }
 }

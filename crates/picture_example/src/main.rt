@@ -26,6 +26,7 @@ use viewer_session::{AnswerForm, Session};
 const FORM: AnswerForm = AnswerForm {
     runs: RectForm::Joined,
     zrle: false,
+    copies: true,
 };
 
 /// The width of the picture in pixels.

@@ -1,9 +1,8 @@
 -- The updates of hosts: their colours have 24 bits, so a screen in the host's format shows them as they are, and their
 -- texts are short.
-use Rattle.std.proofs.Common.{◌≡◌, ℕ, zero, suc, ◌+◌, ◌*◌, ◌-◌, ◌^◌, ◌<◌, Bool, true, false, cond, List, [], ◌∷◌, ◌++◌, map, take, sym, ap, ◌∙◌, subst, arith}
-use Rattle.std.specs.Prelude.{slice_index, drop}
+use Rattle.std.proofs.Common.{◌≡◌, ℕ, zero, suc, ◌+◌, ◌*◌, ◌-◌, ◌^◌, ◌<◌, Bool, true, false, cond, List, [], ◌∷◌, ◌++◌, map, take, ap, ◌∙◌, subst, arith}
+use Rattle.std.specs.Prelude.{slice_index}
 use Rattle.std.specs.List.{filter_map}
-use Rattle.std.proofs.lemmas.List.{take-append-drop}
 use Rattle.pixel_format.specs.PixelFormat.{host_format, tint}
 use Rattle.pixel_format.proofs.ScalingLemmas.{tint_of_host}
 use Rattle.byte_reading.specs.Reading.{messages}
@@ -15,11 +14,11 @@ use Rattle.raster.proofs.Spellings.{Each, each_append}
 use Rattle.reflect_core.specs.Sequential.{Begins}
 use Rattle.rfb_wire.specs.ServerMessage.{ServerMessage, FramebufferUpdate, SetColorMapEntries, Bell, ServerCutText, LostText}
 use Rattle.rfb_wire.specs.Texts.{BringsShortText}
-use Rattle.rfb_wire.proofs.ShortTexts.{server_message_short}
 use Rattle.host_decoder.specs.Decoder.{host_message}
 use Rattle.host_decoder.specs.Hosts.{ended_updates, updates_in_turn}
 use Rattle.host_decoder.specs.Updates.{in_colours, update_of, updates}
-use Rattle.host_decoder.proofs.ShortUpdates.{updates_short}
+use Rattle.host_decoder.proofs.ShortUpdates.{each_begins, turn_short}
+use Rattle.viewer_session.proofs.Streams.{each_take}
 
 -- ---- colours of 24 bits
 
@@ -84,23 +83,11 @@ ended_24 w h (first ∷ ended) =
     each_append Brings24 (updates w h first ++ switch w h ∷ []) (ended_updates w h ended)
     (each_append Brings24 (updates w h first) (switch w h ∷ []) (messages_24 (messages (host_message w h) first)) ((tt, tt), tt)) (ended_24 w h ended)
 
-ended_short : (w h : ℕ) (ended : List (List ℕ)) → Each BringsShortText (ended_updates w h ended)
-ended_short w h [] = tt
-ended_short w h (first ∷ ended) =
-    each_append BringsShortText (updates w h first ++ switch w h ∷ []) (ended_updates w h ended)
-    (each_append BringsShortText (updates w h first) (switch w h ∷ []) (updates_short (host_message w h) first (server_message_short host_format w h)) (tt, tt)) (ended_short w h ended)
-
 -- ---- the first of them
-
-pub each_begins : {A : Type 0} (P : A → Type 0) (xs ys : List A) → Each P (xs ++ ys) → Each P xs
-each_begins P [] ys k = tt
-each_begins P (x ∷ xs) ys k = (k.0, each_begins P xs ys k.1)
 
 pub first_short : (w h : ℕ) (ended : List (List ℕ)) (present : List ℕ) (us : List Update) → Begins us (updates_in_turn w h ended present) → Each BringsShortText us
 first_short w h ended present us first =
-    each_begins BringsShortText us first.0
-    (subst (Each BringsShortText) first.1
-    (each_append BringsShortText (ended_updates w h ended) (updates w h present) (ended_short w h ended) (updates_short (host_message w h) present (server_message_short host_format w h))))
+    each_begins BringsShortText us first.0 (subst (Each BringsShortText) first.1 (turn_short w h ended present))
 
 first_24 : (w h : ℕ) (ended : List (List ℕ)) (present : List ℕ) (us : List Update) → Begins us (updates_in_turn w h ended present) → Each Brings24 us
 first_24 w h ended present us first =
@@ -115,5 +102,4 @@ own_colour colour lt = ap colour_of (tint_of_host colour) ∙ omega (arith, lt)
 -- A position of their screen has the colour of its pixel value.
 pub pixel_is_colour : (w h : ℕ) (ended : List (List ℕ)) (present : List ℕ) (us : List Update) (n x y : ℕ) → Begins us (updates_in_turn w h ended present) → colour_of (tint host_format (screen (take n us) x y)) ≡ screen (take n us) x y
 pixel_is_colour w h ended present us n x y first =
-    let all : Each Brings24 (take n us ++ drop n us) = subst (Each Brings24) (sym (take-append-drop n us)) (first_24 w h ended present us first) in
-    own_colour (screen (take n us) x y) (updates_keep opening (take n us) (each_begins Brings24 (take n us) (drop n us) all) (λ x_ y_. omega arith) x y)
+    own_colour (screen (take n us) x y) (updates_keep opening (take n us) (each_take Brings24 n us (first_24 w h ended present us first)) (λ x_ y_. omega arith) x y)

@@ -42,7 +42,7 @@ ends_told n None None es now k = k
 ends_told n None (Some found) es now k = ends_more es now _ k
 
 pub ends_cut : (s : Setup) (us : List Update) (p : Viewer) (chosen : Option Chosen) → Ends p.entries (after_cut_as s us chosen p).entries
-ends_cut s us p chosen = ends_told (length us) (size_at s.w s.h s.host p.entries us) (with_chosen chosen (update_at s.runs s.w s.h p.entries us)) p.entries (MadeCut (length us) ∷ p.entries) (MadeCut (length us) ∷ [], refl)
+ends_cut s us p chosen = ends_told (length us) (size_at s.w s.h s.host p.entries us) (with_chosen chosen (update_at s.form s.w s.h p.entries us)) p.entries (MadeCut (length us) ∷ p.entries) (MadeCut (length us) ∷ [], refl)
 
 ends_turn : (s : Setup) (us : List Update) (p : Viewer) (looked : ℕ) (cut : Option Cutting) → Ends p.entries (after_turn s us looked cut p).entries
 ends_turn s us p looked None = (Saw looked ∷ [], refl)
@@ -119,7 +119,7 @@ tells_turn : (s : Setup) (us : List Update) (p : Viewer) (looked : ℕ) (cut : O
 tells_turn s us p looked None pictures k = k
 tells_turn s us p looked (Some cut) pictures k =
     let first : List Update = take cut.number us in
-    let found : Option (Rect × List ℕ) = with_chosen cut.chosen (update_at s.runs s.w s.h (Saw looked ∷ p.entries) first) in
+    let found : Option (Rect × List ℕ) = with_chosen cut.chosen (update_at s.form s.w s.h (Saw looked ∷ p.entries) first) in
     let es : List Entry = MadeCut (length first) ∷ Saw looked ∷ p.entries in
     let none : size_at s.w s.h s.host (Saw looked ∷ p.entries) first ≡ None = none_for s.w s.h s.host _ _ _ _ (no_resizes s.w s.h (Saw looked ∷ p.entries) pictures) in
     subst (λ size. TellsNone (told_at (length first) size found es)) (sym none) (tells_at (length first) found es k)

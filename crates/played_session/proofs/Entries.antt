@@ -17,10 +17,10 @@ use Rattle.host_decoder.specs.Updates.{update_of, updates}
 use Rattle.host_decoder.proofs.ShortUpdates.{updates-append}
 use Rattle.update_encoder.specs.Follower.{Follower}
 use Rattle.viewer_session.specs.Record.{Entry, Took, Saw, MadeCut, Began, ToldSize, format_of}
-use Rattle.viewer_session.specs.Stream.{Heard, Bytes, Listener, IsHeard, between, heard, hears, hears_bytes, listener, listener_from, news_at, stream_of}
+use Rattle.viewer_session.specs.Stream.{Bytes, Listener, IsHeard, between, heard, hears_bytes, listener, news_at, stream_of}
 use Rattle.viewer_session.specs.Turn.{news_since}
 use Rattle.viewer_session.proofs.Stands.{AllAnswered, follower_format, follows_all, follows_format}
-use Rattle.viewer_session.proofs.Streams.{is_heard, stream-bytes, stream_took}
+use Rattle.viewer_session.proofs.Streams.{is_heard, listener-push, stream-bytes, stream_took}
 use Rattle.played_session.specs.Played.{AreForRecording}
 use Rattle.played_session.specs.ReadAlike.{ShowsWhatIsHeld, shown_by}
 use Rattle.played_session.proofs.Beside.{nothing_held, reads, screen_after, viewing}
@@ -71,10 +71,6 @@ full_colour (Saw number ∷ es) k = full_colour es k
 full_colour (MadeCut number ∷ es) k = full_colour es k
 full_colour (Began area number bytes ∷ es) k = full_colour es k
 full_colour (ToldSize size number bytes ∷ es) k = full_colour es k
-
-listener-push : (w h : ℕ) (l : Listener) (xs : List Heard) (x : Heard) → listener_from w h l (xs ++ x ∷ []) ≡ hears w h (listener_from w h l xs) x
-listener-push w h l [] x = refl
-listener-push w h l (y ∷ xs) x = listener-push w h (hears w h l y) xs x
 
 -- An entry sends bytes. It and the record before it are for a recording, and both are heard.
 plays_bytes : (w h : ℕ) (us : List Update) (es : List Entry) (e : Entry) (bytes : List ℕ) → heard w h us (e ∷ es) ≡ heard w h us es ++ Bytes bytes ∷ []

@@ -41,7 +41,7 @@ not_heeded false takes e f = absurd cc
 
 none_chosen : (s : Setup) (us : List Update) (es : List Entry) (before : ZlibStream) (chosen : Option Chosen) → MayBeChosen s us es before chosen → AreForRecording es → chosen ≡ None
 none_chosen s us es before None may k = refl
-none_chosen s us es before (Some chosen) may k = absurd (not_heeded s.zrle (choice_of es).zrle (no_zrle es k) may.heeded)
+none_chosen s us es before (Some chosen) may k = absurd (not_heeded s.form.zrle (choice_of es).zrle (no_zrle es k) may.heeded)
 
 -- ---- act by act
 

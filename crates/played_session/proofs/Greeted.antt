@@ -114,7 +114,7 @@ said_on w h name n (suc k) =
     begins_on (said_to_viewer w h name n) (said_to_viewer w h name (n + k)) (said_to_viewer w h name (n + suc k)) (said_on w h name n k)
     (subst (λ m. Begins (said_to_viewer w h name (n + k)) (said_to_viewer w h name m)) next (said_grows w h name (n + k)))
 
-few_if : (b : Bool) (xs : List ℕ) → length (cond b xs []) ≤ length xs
+pub few_if : (b : Bool) (xs : List ℕ) → length (cond b xs []) ≤ length xs
 few_if true xs = omega arith
 few_if false xs = omega arith
 

@@ -1,27 +1,25 @@
 -- What a player shows wherever it is in what a session has said, entry by entry of the session's record. The law
 -- `players_never_go_back` is made of it.
-use Rattle.std.proofs.Common.{◌≡◌, ℕ, ◌+◌, ◌-◌, ◌≤◌, Bool, true, false, cond, List, [], ◌∷◌, ◌++◌, length, max, min, take, suc, Option, Some, None, refl, sym, ap, ◌∙◌, subst, arith, append-nil}
-use Rattle.std.specs.Prelude.{drop, nat_lt, unwrap_or}
-use Rattle.std.proofs.lemmas.List.{take-append-drop}
+use Rattle.std.proofs.Common.{◌≡◌, ℕ, ◌+◌, ◌-◌, ◌≤◌, Bool, true, false, cond, List, [], ◌∷◌, ◌++◌, length, max, min, take, Option, Some, None, refl, sym, ap, ◌∙◌, subst, arith, append-nil}
+use Rattle.std.specs.Prelude.{nat_lt, unwrap_or}
 use Rattle.pixel_format.specs.PixelFormat.{PixelFormat, host_format, tint}
 use Rattle.byte_reading.specs.Reading.{Reading, Done, Faulty, Want, Spells, finished, messages_from, renewed, rest, rest_from}
 use Rattle.byte_reading.proofs.ReadingLaws.{messages-append}
 use Rattle.raster.specs.declared.rect.Rect.{Rect}
 use Rattle.raster.specs.declared.size.Size.{Size}
 use Rattle.raster.specs.Screen.{Canvas, LooksLike, common, cover, is_empty, whole_screen}
-use Rattle.raster.specs.Update.{Paints, Cut, NumberedText, Update, bells, last_text, last_text_from, screen}
-use Rattle.raster.specs.Update as update
+use Rattle.raster.specs.Update.{NumberedText, Update, bells, last_text, screen}
 use Rattle.raster.proofs.Spellings.{Each}
 use Rattle.rfb_wire.specs.ClientMessage.{SetPixelFormat, SetEncodings, Ask, Key, Pointer, CutText, LostText, longest_text}
 use Rattle.rfb_wire.specs.ServerMessage as server
 use Rattle.rfb_wire.specs.ServerMessage.{ServerMessage, FramebufferUpdate, SetColorMapEntries, Bell, ServerCutText, server_message}
 use Rattle.rfb_wire.specs.Texts.{BringsShortText}
 use Rattle.rfb_wire.specs.Writing.{bell_bytes, server_text_bytes}
-use Rattle.rfb_wire.proofs.Messages.{text_is_kept}
 use Rattle.reflect_core.specs.Asked.{covered, pending}
 use Rattle.reflect_core.specs.Sequential.{Begins}
 use Rattle.host_decoder.specs.Decoder.{host_message}
 use Rattle.host_decoder.specs.Hosts.{updates_in_turn}
+use Rattle.host_decoder.proofs.ShortUpdates.{each_begins}
 use Rattle.tiles.specs.Touched.{told_last}
 use Rattle.update_encoder.specs.Follower.{HoldsArea}
 use Rattle.viewer_session.specs.Record.{Entry, Took, Saw, MadeCut, Began, ToldSize, NumbersUpTo, events}
@@ -31,13 +29,13 @@ use Rattle.viewer_session.specs.Viewer.{Viewer, new_viewer}
 use Rattle.viewer_session.specs.Acts.{viewer_after}
 use Rattle.viewer_session.proofs.Good.{IsGood}
 use Rattle.viewer_session.proofs.Stands.{AllAnswered, IsAnswered, follower_format, follows_all}
-use Rattle.viewer_session.proofs.Streams.{stream-bytes, stream_took}
+use Rattle.viewer_session.proofs.Streams.{IsShort, each_take, last_short, spells_server_text, stream-bytes, stream_took}
 use Rattle.played_session.specs.Pictures.{AreForPictures, PlayersNeverGoBack, ShowsAfter}
 use Rattle.viewer_session.proofs.Parts.{begins_same}
 use Rattle.played_session.specs.Played.{AreForRecording}
 use Rattle.played_session.specs.ReadAlike.{shown_by}
 use Rattle.played_session.proofs.Beside.{screen_after}
-use Rattle.played_session.proofs.Colours.{each_begins, first_short, pixel_is_colour}
+use Rattle.played_session.proofs.Colours.{first_short, pixel_is_colour}
 use Rattle.played_session.proofs.Earlier.{TellsNone, tells_none}
 use Rattle.played_session.proofs.Entries.{Plays, full_colour, record_plays, shown_more}
 use Rattle.played_session.proofs.Followed.{good_after}
@@ -92,21 +90,9 @@ quiet_bell w h us (Some number) ys k = quiet_bell_if w h (nat_lt (bells (take nu
 
 quiet_text_if : (w h : ℕ) (b : Bool) (text : List ℕ) → length text ≤ longest_text → Each Quiet (in_bytes w h (cond b (server_text_bytes text) []))
 quiet_text_if w h true text short =
-    let said = text_is_kept ServerCutText server.LostText text short in
-    let spelled : Spells (host_message w h) (server_text_bytes text) (ServerCutText text) = record { whole = ap suc said.whole; says = said.says } in
+    let spelled : Spells (host_message w h) (server_text_bytes text) (ServerCutText text) = spells_server_text host_format w h text short in
     subst (Each Quiet) (sym (ap (in_bytes w h) (sym (append-nil (server_text_bytes text))) ∙ one_then w h (server_text_bytes text) [] (ServerCutText text) spelled)) (tt, tt)
 quiet_text_if w h false text short = tt
-
--- A text that is there is short.
-abbrev IsShort : Option NumberedText → Type 0
-IsShort None = Unit {0}
-IsShort (Some last) = length last.text ≤ longest_text
-
-last_short : (last : Option NumberedText) (next : ℕ) (us : List Update) → IsShort last → Each BringsShortText us → IsShort (last_text_from last next us)
-last_short last next [] k l = k
-last_short last next (Paints size ps ∷ us) k l = last_short last (next + 1) us k l.1
-last_short last next (update.Bell ∷ us) k l = last_short last (next + 1) us k l.1
-last_short last next (Cut text ∷ us) k l = last_short (Some (record { text = text; number = next })) (next + 1) us l.0 l.1
 
 quiet_newer : (w h number : ℕ) (o : Option NumberedText) → IsShort o → Each Quiet (in_bytes w h (newer_text number o))
 quiet_newer w h number None k = tt
@@ -118,9 +104,6 @@ quiet_text w h us (Some number) k = quiet_newer w h number (last_text us) (last_
 
 quiet_news : (w h : ℕ) (us : List Update) (o : Option ℕ) → Each BringsShortText us → Each Quiet (in_bytes w h (news_at us o))
 quiet_news w h us o k = quiet_bell w h us o (text_at us o) (quiet_text w h us o k)
-
-short_first : (n : ℕ) (us : List Update) → Each BringsShortText us → Each BringsShortText (take n us)
-short_first n us k = each_begins BringsShortText (take n us) (drop n us) (subst (Each BringsShortText) (sym (take-append-drop n us)) k)
 
 -- Inside news nothing changes.
 quiet_in : (w h : ℕ) (xs news c : List ℕ) → rest (host_message w h) xs ≡ host_message w h → Each Quiet (in_bytes w h news) → Begins c news → shown_by w h (xs ++ c) ≡ shown_by w h xs
@@ -296,7 +279,7 @@ module _ (w h : ℕ) (ended : List (List ℕ)) (present : List ℕ) (us : List U
   in_order (MadeCut number ∷ es) k pictures none =
       let before : InOrder w h us (said es) (last_number es) = in_order es k pictures none in
       let news : List ℕ = news_at (take number us) (news_since w h es) in
-      let quiet : Each Quiet (in_bytes w h news) = quiet_news w h (take number us) (news_since w h es) (short_first number us short) in
+      let quiet : Each Quiet (in_bytes w h news) = quiet_news w h (take number us) (news_since w h es) (each_take BringsShortText number us short) in
       let still : (c : List ℕ) → Begins c news → shown_by w h (said es ++ c) ≡ shown_by w h (said es) = λ c begins. quiet_in w h (said es) news c (plays_of es k pictures).whole quiet begins in
       subst (λ t. InOrder w h us t (last_number es)) (sym (stream-bytes (heard w h us es) news))
       (piece_more w h us (said es) news (last_number es) (last_number es) (λ c. false) (omega arith) before.known

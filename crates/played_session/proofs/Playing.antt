@@ -1,48 +1,25 @@
 -- A recording that is played, answer by answer. The law `recordings_show_what_was_sent` is made of it.
-use Rattle.std.proofs.Common.{◌≡◌, ℕ, ◌+◌, List, [], ◌∷◌, ◌++◌, take, Some, sym, ap, ◌∙◌, subst, arith, append_assoc, append-nil}
+use Rattle.std.proofs.Common.{◌≡◌, ℕ, ◌+◌, List, ◌∷◌, ◌++◌, take, Some, ap, ◌∙◌, subst, arith}
 use Rattle.pixel_format.specs.PixelFormat.{PixelFormat, host_format, tint}
 use Rattle.byte_reading.specs.Reading.{rest}
 use Rattle.raster.specs.declared.rect.Rect.{Rect}
 use Rattle.raster.specs.Update.{Update, screen}
 use Rattle.raster.proofs.Spellings.{Each}
-use Rattle.rfb_wire.specs.ClientMessage.{SetPixelFormat, SetEncodings, Ask, Key, Pointer, CutText, LostText}
 use Rattle.rfb_wire.specs.Texts.{BringsShortText}
 use Rattle.reflect_core.specs.Sequential.{Begins}
 use Rattle.host_decoder.specs.Decoder.{host_message}
 use Rattle.host_decoder.specs.Hosts.{updates_in_turn}
-use Rattle.viewer_session.specs.Record.{Entry, Took, Saw, MadeCut, Began, ToldSize}
-use Rattle.viewer_session.specs.Stream.{Heard, Format, Bytes, heard, news_at, stream_of}
-use Rattle.viewer_session.specs.Turn.{news_since}
+use Rattle.viewer_session.specs.Record.{Entry, Began}
+use Rattle.viewer_session.specs.Stream.{heard, stream_of}
 use Rattle.viewer_session.specs.Viewer.{Setup, Viewer}
 use Rattle.viewer_session.proofs.Good.{IsGood, answered_behind}
 use Rattle.viewer_session.proofs.Stands.{AllAnswered, follower_format, follows_all}
-use Rattle.viewer_session.proofs.Streams.{stream-append, stream-bytes}
+use Rattle.viewer_session.proofs.Streams.{heard_begins, stream-append, stream-bytes}
 use Rattle.played_session.specs.Played.{AreForRecording, IsPlayedAt, RecordingsShowWhatWasSent}
 use Rattle.played_session.proofs.Colours.{first_short, pixel_is_colour}
 use Rattle.played_session.proofs.Earlier.{recording_before}
 use Rattle.played_session.proofs.Entries.{Plays, full_colour, record_plays}
 use Rattle.played_session.proofs.Followed.{good_after}
-
--- ---- the entries before an answer
-
-one_more : (xs all : List Heard) (x : Heard) → (more : List Heard) × (all ≡ xs ++ more) → (more : List Heard) × (all ++ x ∷ [] ≡ xs ++ more)
-one_more xs all x k = (k.0 ++ x ∷ [], ap (λ t. t ++ x ∷ []) k.1 ∙ append_assoc xs k.0 (x ∷ []))
-
--- What came of the earlier entries begins what came of all.
-heard_begins : (w h : ℕ) (us : List Update) (later earlier : List Entry) → (more : List Heard) × (heard w h us (later ++ earlier) ≡ heard w h us earlier ++ more)
-heard_begins w h us [] earlier = ([], sym (append-nil (heard w h us earlier)))
-heard_begins w h us (Took (SetPixelFormat format) ∷ later) earlier = one_more (heard w h us earlier) (heard w h us (later ++ earlier)) (Format format) (heard_begins w h us later earlier)
-heard_begins w h us (Took (SetEncodings choice) ∷ later) earlier = heard_begins w h us later earlier
-heard_begins w h us (Took (Ask incremental area) ∷ later) earlier = heard_begins w h us later earlier
-heard_begins w h us (Took (Key down key) ∷ later) earlier = heard_begins w h us later earlier
-heard_begins w h us (Took (Pointer mask x y) ∷ later) earlier = heard_begins w h us later earlier
-heard_begins w h us (Took (CutText text) ∷ later) earlier = heard_begins w h us later earlier
-heard_begins w h us (Took (LostText len) ∷ later) earlier = heard_begins w h us later earlier
-heard_begins w h us (Saw number ∷ later) earlier = heard_begins w h us later earlier
-heard_begins w h us (MadeCut number ∷ later) earlier =
-    one_more (heard w h us earlier) (heard w h us (later ++ earlier)) (Bytes (news_at (take number us) (news_since w h (later ++ earlier)))) (heard_begins w h us later earlier)
-heard_begins w h us (Began area number bytes ∷ later) earlier = one_more (heard w h us earlier) (heard w h us (later ++ earlier)) (Bytes bytes) (heard_begins w h us later earlier)
-heard_begins w h us (ToldSize size number bytes ∷ later) earlier = one_more (heard w h us earlier) (heard w h us (later ++ earlier)) (Bytes bytes) (heard_begins w h us later earlier)
 
 -- ---- an answer
 

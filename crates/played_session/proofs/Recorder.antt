@@ -32,6 +32,7 @@ use Rattle.viewer_server.specs.Serving.{bytes_in}
 use Rattle.played_session.specs.Pictures.{AreForPictures, IsForPictures}
 use Rattle.played_session.specs.Played.{AreForRecording, IsOpened}
 use Rattle.played_session.specs.Recorder.{RecordersAreForRecording, RecordersAskForAll}
+use Rattle.played_session.proofs.Greeted.{few_if}
 use Rattle.played_session.proofs.Hello.{hellos_heard}
 use Rattle.played_session.proofs.Pictures.{recording_of}
 
@@ -104,10 +105,6 @@ module _ (w h : ℕ) where
   short_are begun [] reading (Want more) e le = tt
   short_are begun (b ∷ xs) reading (Want more) e le =
       short_are (begun ++ b ∷ []) xs reading (more b) (after-append viewer_hello begun (b ∷ []) ∙ ap (λ r. step r b) e) (omega (arith, le, length-append begun (b ∷ [])))
-
-  few_if : (b : Bool) (xs : List ℕ) → length (cond b xs []) ≤ length xs
-  few_if true xs = omega arith
-  few_if false xs = omega arith
 
   few_chosen : (o : Option ℕ) → length (option_to_list o) ≤ 1
   few_chosen None = omega arith
@@ -243,7 +240,7 @@ module _ (w h : ℕ) where
       let first : List Update = take cut.number us in
       record {
         waiting = k.waiting;
-        entries = told_too (length first) (size_at s.w s.h s.host (Saw looked ∷ p.entries) first) (with_chosen cut.chosen (update_at s.runs s.w s.h (Saw looked ∷ p.entries) first)) (Saw looked ∷ p.entries) k.entries;
+        entries = told_too (length first) (size_at s.w s.h s.host (Saw looked ∷ p.entries) first) (with_chosen cut.chosen (update_at s.form s.w s.h (Saw looked ∷ p.entries) first)) (Saw looked ∷ p.entries) k.entries;
         fine = k.fine;
       }
 

@@ -19,7 +19,7 @@ use Rattle.played_session.specs.ReadAlike.{shown_by}
 
 -- A screen of 2 by 1, named T.
 abbrev pub small : Setup
-small = record { w = 2; h = 1; name = 0x54 ∷ []; room = 256; runs = Joined; host = None; zrle = true }
+small = record { w = 2; h = 1; name = 0x54 ∷ []; room = 256; form = record { runs = Joined; zrle = true; copies = true }; host = None }
 
 -- What its host says: red and blue, and then green on the right.
 abbrev pub host : List ℕ

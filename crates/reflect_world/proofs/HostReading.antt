@@ -3,8 +3,8 @@ use Rattle.std.proofs.Common.{◌≡◌, ℕ, suc, ◌<◌, true, List, [], ◌�
 use Rattle.std.specs.Prelude.{slice_get}
 use Rattle.std.specs.List.{filter_map}
 use Rattle.std.proofs.lemmas.List.{append-nil, drop_all, length-drop}
-use Rattle.byte_reading.specs.Reading.{Reading, Done, Faulty, Want, after, step, taken, whole_of, wants_more, renewed, messages, messages_from, rest, rest_from}
-use Rattle.byte_reading.proofs.ReadingLaws.{after-done, after-faulty, messages-open, messages-whole, rest-append, rest-whole, taken-some}
+use Rattle.byte_reading.specs.Reading.{Reading, Done, Faulty, Want, after, taken, whole_of, wants_more, messages, messages_from, rest}
+use Rattle.byte_reading.proofs.ReadingLaws.{after-faulty, after-taken, messages-open, messages-whole, rest-append, rest-whole, rest_open, taken-some}
 use Rattle.raster.specs.Update.{Update}
 use Rattle.rfb_wire.specs.ServerMessage.{ServerMessage}
 use Rattle.host_decoder.specs.Updates.{update_of, updates_by}
@@ -13,30 +13,12 @@ use Rattle.reflect_world.specs.Host.{with_past}
 
 -- ---- the rest is never a whole message
 
-renewed_open : {A : Type 0} (form now : Reading A) → whole_of form ≡ None → whole_of (renewed form now) ≡ None
-renewed_open form (Done x) e = e
-renewed_open form (Faulty f) e = refl
-renewed_open form (Want more) e = refl
-
-rest_from_open : {A : Type 0} (form now : Reading A) (bs : List ℕ) → whole_of form ≡ None → whole_of now ≡ None → whole_of (rest_from form now bs) ≡ None
-rest_from_open form now [] e k = k
-rest_from_open form now (b ∷ bs) e k = rest_from_open form (renewed form (step now b)) bs e (renewed_open form (step now b) e)
-
-pub rest_open : {A : Type 0} (form : Reading A) (bs : List ℕ) → whole_of form ≡ None → whole_of (rest form bs) ≡ None
-rest_open form bs e = rest_from_open form form bs e e
-
 faulty_no_whole : {A : Type 0} (now : Reading A) (bs : List ℕ) (x : A) → whole_of now ≡ None → after now bs ≡ Done x → wants_more now ≡ true
 faulty_no_whole (Done y) bs x k e = absurd cc
 faulty_no_whole {A} (Faulty f) bs x k e = let at = sym (ap whole_of (after-faulty {A = A} f bs)) ∙ ap whole_of e in absurd cc
 faulty_no_whole (Want more) bs x k e = refl
 
 -- ---- what was taken of a piece
-
-pub after-taken : {A : Type 0} (now : Reading A) (bs : List ℕ) → after now (take (taken now bs) bs) ≡ after now bs
-after-taken (Done x) bs = sym (after-done x bs)
-after-taken (Faulty f) bs = sym (after-faulty f bs)
-after-taken (Want more) [] = refl
-after-taken (Want more) (b ∷ bs) = after-taken (more b) bs
 
 taken-taken : {A : Type 0} (now : Reading A) (bs : List ℕ) → taken now (take (taken now bs) bs) ≡ length (take (taken now bs) bs)
 taken-taken (Done x) bs = refl

@@ -120,7 +120,7 @@ quiet : (p : Viewer) (looked : Option ℕ) (written : ℕ) (sent : List Input) �
 quiet p looked written sent k = passed_as p _ sent k refl refl refl refl refl
 
 passed_cut : (s : Setup) (us : List Update) (p : Viewer) (sent : List Input) → HasPassed p sent → HasPassed (after_cut s us p) sent
-passed_cut s us p sent k = passed_as p _ sent k refl refl refl (began_messages (length us) (size_at s.w s.h s.host p.entries us) (update_at s.runs s.w s.h p.entries us) p.entries) (began_last (length us) (size_at s.w s.h s.host p.entries us) (update_at s.runs s.w s.h p.entries us) p.entries)
+passed_cut s us p sent k = passed_as p _ sent k refl refl refl (began_messages (length us) (size_at s.w s.h s.host p.entries us) (update_at s.form s.w s.h p.entries us) p.entries) (began_last (length us) (size_at s.w s.h s.host p.entries us) (update_at s.form s.w s.h p.entries us) p.entries)
 
 stay_look : (s : Setup) (role : Role) (v u : ℕ) (base : List Input) (w : World) (p : Viewer) → w.viewers u ≡ Some p → InStay role v base w → InStay role v base (look_at s w u p)
 stay_look s role v u base w p e k =

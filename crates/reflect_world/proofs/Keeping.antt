@@ -21,7 +21,7 @@ use Rattle.reflect_world.proofs.Told.{told_in_every_schedule}
 kept_more : (k : Kept) (old new : Standing) (e : Step) → IsKept k old → k.is_refused ≡ false → JoinsUnder k.name k.runs e old new → IsKept (with_steps k (e ∷ [])) new
 kept_more k old new e kept fine takes =
     let now : Reached (setup_of k) new (world_of (with_steps k (e ∷ []))) =
-    subst (λ w. Reached (setup_of k) new w) (sym (play-more (setup_of k) k.steps e)) (takes (setup_of k) (world_of k) refl refl refl refl (kept.reached fine)) in
+    subst (λ w. Reached (setup_of k) new w) (sym (play-more (setup_of k) k.steps e)) (takes (setup_of k) (world_of k) refl refl refl (kept.reached fine)) in
     record { named = kept.named; shows = shows_reached (setup_of k) new (world_of (with_steps k (e ∷ []))) now; reached = λ no. now }
 
 -- An entry was pushed, and its step was taken.
@@ -37,8 +37,8 @@ kept_joined_by k old new e kept takes shows =
     let more = sym (play-more (setup_of k) k.steps e) in
     record {
       named = kept.named;
-      shows = subst (λ w. Shows (setup_of k) new w) more (shows (setup_of k) (world_of k) refl refl refl refl kept.shows);
-      reached = λ fine. subst (λ w. Reached (setup_of k) new w) more (takes (setup_of k) (world_of k) refl refl refl refl (kept.reached fine));
+      shows = subst (λ w. Shows (setup_of k) new w) more (shows (setup_of k) (world_of k) refl refl refl kept.shows);
+      reached = λ fine. subst (λ w. Reached (setup_of k) new w) more (takes (setup_of k) (world_of k) refl refl refl (kept.reached fine));
     }
 
 pub kept_joined : (k : Kept) (entries more : List ScheduleEntry) (entry : ScheduleEntry) (old new : Standing) → IsKept (record k { steps = map entry_of entries }) old → more ≡ entries ++ entry ∷ []

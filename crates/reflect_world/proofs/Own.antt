@@ -12,7 +12,7 @@ use Rattle.byte_reading.specs.Reading.{Reading, Done, Faulty, Want, step, wants_
 use Rattle.raster.specs.declared.rect.Rect.{Rect}
 use Rattle.raster.specs.declared.size.Size.{Size}
 use Rattle.raster.specs.Update.{Update, view}
-use Rattle.joined_runs.specs.declared.rect_form.RectForm.{RectForm}
+use Rattle.viewer_session.specs.declared.form.AnswerForm.{AnswerForm}
 use Rattle.rfb_wire.specs.ClientMessage.{ClientMessage, client_message}
 use Rattle.roles.specs.Allowed.{Input, passes}
 use Rattle.reflect_core.specs.Sequential as history
@@ -58,7 +58,7 @@ own_began us mine n (Some size) o es le k = record { numbers = (le, k.numbers); 
 own_began us mine n None None es le k = k
 own_began us mine n None (Some found) es le k = record { numbers = (le, k.numbers); same = k.same }
 
-own_cut : (form : RectForm) (w h : ℕ) (host : Option Size) (us : List Update) (mine : List history.Step) (es : List Entry) → HasOwn us mine es → HasOwn us (mine ++ history.Cut (view us) ∷ []) (record_after_cut form w h host es us)
+own_cut : (form : AnswerForm) (w h : ℕ) (host : Option Size) (us : List Update) (mine : List history.Step) (es : List Entry) → HasOwn us mine es → HasOwn us (mine ++ history.Cut (view us) ∷ []) (record_after_cut form w h host es us)
 own_cut form w h host us mine es k = own_began us (mine ++ history.Cut (view us) ∷ []) (length us) (size_at w h host es us) (update_at form w h es us) (MadeCut (length us) ∷ es) (omega arith) (own_made_cut us mine es k)
 
 -- What was cut stays so when an update is put.
@@ -204,7 +204,7 @@ own_cut_at : (s : Setup) (w : World) (v : ℕ) (p : Viewer) (o : Option ℕ) →
 own_cut_at s w v p None h k = own_set w v (Some p) h k
 own_cut_at s w v p (Some looked) h k =
     own_if (has_reason s.w s.h p.entries looked) _ _
-    (own_takes w v (history.Cut (view w.shared.updates)) (after_cut s w.shared.updates p) h (own_cut s.runs s.w s.h s.host w.shared.updates (own_steps w v) p.entries k)) (own_set w v _ h k)
+    (own_takes w v (history.Cut (view w.shared.updates)) (after_cut s w.shared.updates p) h (own_cut s.form s.w s.h s.host w.shared.updates (own_steps w v) p.entries k)) (own_set w v _ h k)
 
 own_send : (s : Setup) (w : World) (v : ℕ) (p : Viewer) (o : Option Input) → IsOwn w → HasOwn w.shared.updates (own_steps w v) p.entries → IsOwn (send_waiting s w v p o)
 own_send s w v p None h k = own_set w v _ h k

@@ -211,7 +211,7 @@ place_cut s us place session p k stands counted =
       counted = counted;
       looked = refl;
       ready = λ no. absurd cc;
-      written = k.written ∙ (sym (take-append-le p.written (out_bytes s p) (sent_at s.runs s.w s.h s.host p.entries us) k.session.serves.written) ∙ ap (take p.written) (append_assoc (hello_of s p) p.said_after (sent_at s.runs s.w s.h s.host p.entries us)));
+      written = k.written ∙ (sym (take-append-le p.written (out_bytes s p) (sent_at s.form s.w s.h s.host p.entries us) k.session.serves.written) ∙ ap (take p.written) (append_assoc (hello_of s p) p.said_after (sent_at s.form s.w s.h s.host p.entries us)));
     }
 
 -- Its waiting input was taken, or none was.

@@ -21,7 +21,7 @@ use Rattle.viewer_session.specs.Session.{State, Stands, StandsBut, HasCounted, a
 use Rattle.reflect_core.specs.Sequential as history
 use Rattle.reflect_world.specs.Host.{HasReadTo, HostSide, HostStands, IsReadOut, IsSameHost, ReadsOn, BeginsNext, form_of, host_form, with_past}
 use Rattle.reflect_world.specs.Schedule.{Next, next_update, fault_now, next_host, set_viewer, with_act, Act, ByViewer, World, Step, HostBytes, Put, Join, Bytes, Look, Cut, Written, beginning, happens, play, play_from, put_next, for_viewer, cut_at, Relayed, send_waiting, Send, Take, take_first}
-use Rattle.reflect_world.specs.World.{Held, Standing, PlaceBy, PlaceShows, PlaceStands, Reached, Shows, Leaves, StaysFor, StaysSeen, IsBrokenOff, ShowsUnder, place_at, IsFed, HasLooked, IsWritten, GoesOn, IsPut, JoinsUnder, TakesStep, HasSent, with_session}
+use Rattle.reflect_world.specs.World.{Held, Standing, PlaceBy, PlaceShows, PlaceStands, Reached, Shows, Leaves, StaysFor, StaysSeen, IsBrokenOff, ShowsUnder, place_at, IsFed, HasLooked, IsWritten, GoesOn, IsPut, JoinsUnder, TakesStep, HasSent, plain_form, with_session}
 use Rattle.reflect_world.specs.Relay.{RelaySide, TakesFirst, takes_from}
 use Rattle.painter.specs.Patch.{SizedUpdate}
 use Rattle.painter.specs.Same.{AreSameFrom}
@@ -308,7 +308,7 @@ reached_cut s standing w v looked place session r within there at stays cut coun
     let known : HasCounted place.session put = counted_in s.w s.h place.session us put r.updates k.counted in
     let turned =
     place_turned s place session p us looked (has_reason s.w s.h p.entries looked) refl k (stays (at_rest p) k.session)
-    (λ e. subst (λ (q : Viewer). Stands s session q) (cut_same s put us (at_rest p) back) (cut (at_rest p) known k.session e))
+    (λ e. subst (λ (q : Viewer). Stands s session q) (cut_same s put us (at_rest p) r.plain.copies back) (cut (at_rest p) known k.session e))
     (counted_in s.w s.h session put us back (counted known)) in
     subst (λ o. Reached s (with_place standing v (record { session = session; looked = None; written = place.written; unread = place.unread })) (cut_at s w v p o)) (sym at ∙ k.looked)
     (reached_cut_if s standing w v looked _ p (has_reason s.w s.h p.entries looked) r within turned))
@@ -361,11 +361,11 @@ held_is new looked written unread =
     ap with_looked looked ∙ (ap with_written written ∙ ap with_unread unread)
 
 pub joined_reaches : (standing : Standing) (v : ℕ) (name : List ℕ) (runs : RectForm) (role : Role) (greet : Bool) (new : Held) → v < 65 → new.looked ≡ None → new.written ≡ [] → new.unread ≡ [] → new.session.asked.last ≡ None
-    → ((s : Setup) → s.w ≡ standing.screen.width → s.h ≡ standing.screen.height → s.name ≡ name → s.runs ≡ runs → s.host ≡ None → s.zrle ≡ false → Stands s new.session (new_viewer role greet))
+    → ((s : Setup) → s.w ≡ standing.screen.width → s.h ≡ standing.screen.height → s.name ≡ name → s.form ≡ plain_form runs → s.host ≡ None → Stands s new.session (new_viewer role greet))
     → JoinsUnder name runs (Join v role greet) standing (with_place standing v new)
-joined_reaches standing v name runs role greet new within looked written unread uncut stands s w named formed untold plain r =
+joined_reaches standing v name runs role greet new within looked written unread uncut stands s w named formed untold r =
     subst (λ h. Reached s (with_place standing v h) (happens s w (Join v role greet))) (sym (held_is new looked written unread))
-    (reached_join s standing w v role greet new.session r within (stands s (sym r.width) (sym r.height) named formed untold plain) uncut)
+    (reached_join s standing w v role greet new.session r within (stands s (sym r.width) (sym r.height) named formed untold) uncut)
 
 -- What a cut asks for.
 pub ready_there : (s : Setup) (standing : Standing) (w : World) (v : ℕ) (found : Option Held) (place : Held) → Reached s standing w → v < 65 → found ≡ slice_index_or standing.places v found → found ≡ Some place
@@ -526,10 +526,10 @@ broken_off standing v found place new within at e broken s w r =
 
 -- A viewer joins, also where memory was refused before.
 pub joined_shows : (standing : Standing) (v : ℕ) (name : List ℕ) (runs : RectForm) (role : Role) (greet : Bool) (new : Held) → v < 65 → new.written ≡ []
-    → ((s : Setup) → s.w ≡ standing.screen.width → s.h ≡ standing.screen.height → s.name ≡ name → s.runs ≡ runs → s.host ≡ None → s.zrle ≡ false → Stands s new.session (new_viewer role greet))
+    → ((s : Setup) → s.w ≡ standing.screen.width → s.h ≡ standing.screen.height → s.name ≡ name → s.form ≡ plain_form runs → s.host ≡ None → Stands s new.session (new_viewer role greet))
     → ShowsUnder name runs (Join v role greet) standing (with_place standing v new)
-joined_shows standing v name runs role greet new within written stands s w named formed untold plain shown =
-    let stood : Stands s new.session (new_viewer role greet) = stands s (sym shown.width) (sym shown.height) named formed untold plain in
+joined_shows standing v name runs role greet new within written stands s w named formed untold shown =
+    let stood : Stands s new.session (new_viewer role greet) = stands s (sym shown.width) (sym shown.height) named formed untold in
     record {
       size = shown.size;
       width = shown.width;

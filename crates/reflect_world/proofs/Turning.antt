@@ -11,7 +11,8 @@ use Rattle.viewer_session.specs.Record.{choice_of, events}
 use Rattle.viewer_session.specs.Turn.{Chosen, has_reason}
 use Rattle.viewer_session.specs.Viewer.{Setup, Viewer, after_cut, after_cut_as}
 use Rattle.viewer_session.specs.Session.{State, Stands, CutsAt, IsCut, HasCounted, wants_cut, without_look}
-use Rattle.reflect_world.specs.World.{Held, HasTurned, with_session}
+use Rattle.viewer_session.proofs.Holding.{heeds_none}
+use Rattle.reflect_world.specs.World.{Held, HasTurned, IsPlain, with_session}
 use Rattle.reflect_world.proofs.Places.{stands_without_look}
 
 -- What the record has reason for is what the state wants.
@@ -33,16 +34,11 @@ pub screen_stays : (before after : Plain) (old new : State) (us : List Update) (
 screen_stays before after old new us least most looked true e idle cuts = (cuts e).cut.1
 screen_stays before after old new us least most looked false e idle cuts = idle e
 
--- Where no viewer is answered in ZRLE nothing is chosen.
-heeds_none : (zrle takes : Bool) → zrle ≡ false → (zrle && takes) ≡ true → ⊥
-heeds_none true takes z e = absurd cc
-heeds_none false takes z e = absurd cc
-
-plain_by : (s : Setup) (st : State) (us : List Update) (p : Viewer) (chosen : Option Chosen) → s.zrle ≡ false → MayBeChosen s us p.entries p.stream chosen → Stands s st (after_cut_as s us chosen p) → Stands s st (after_cut s us p)
+plain_by : (s : Setup) (st : State) (us : List Update) (p : Viewer) (chosen : Option Chosen) → IsPlain s.form → MayBeChosen s us p.entries p.stream chosen → Stands s st (after_cut_as s us chosen p) → Stands s st (after_cut s us p)
 plain_by s st us p None z may k = k
-plain_by s st us p (Some chosen) z may k = absurd (heeds_none s.zrle (choice_of p.entries).zrle z may.heeded)
+plain_by s st us p (Some chosen) z may k = absurd (heeds_none s.form.zrle (choice_of p.entries).zrle z.zrle may.heeded)
 
-plain_cut : (s : Setup) (st : State) (us : List Update) (p : Viewer) → s.zrle ≡ false → IsCut s st us p → Stands s st (after_cut s us p)
+plain_cut : (s : Setup) (st : State) (us : List Update) (p : Viewer) → IsPlain s.form → IsCut s st us p → Stands s st (after_cut s us p)
 plain_cut s st us p z k = plain_by s st us p k.chosen z k.may_be k.stands
 
 pub has_turned : {S : Type 0} (cutting : S → ℕ → S → Type 0) (screen : S) (old : Held) (session : State) (us : List Update) (looked : ℕ) → (wants_cut old.session.asked looked ≡ false → session ≡ old.session)

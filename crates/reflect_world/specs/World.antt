@@ -10,6 +10,7 @@ use Rattle.painter.specs.Same.{AreSameFrom}
 use Rattle.reflect_core.specs.Plain.{Plain}
 use Rattle.roles.specs.Allowed.{Input}
 use Rattle.roles.specs.Held.{left_in}
+use Rattle.viewer_session.specs.declared.form.AnswerForm.{AnswerForm}
 use Rattle.viewer_session.specs.Acts.{waiting_list}
 use Rattle.viewer_session.specs.Session.{HasCounted, IsFeeding, State, fault_in, Stands, StandsBut, at_rest, is_ready, after_writing, with_marks, without_input, without_look}
 use Rattle.viewer_session.specs.Turn.{has_reason}
@@ -79,10 +80,18 @@ pub record Kept : Type 0 where
   pub steps : List Step
   pub is_refused : Bool
 
--- The setup of the definitions: the world's screen, its room and its form. Its viewers aren't told of sizes, and aren't
--- answered in ZRLE.
+-- How viewers of a world are answered: with rectangles of this form, without ZRLE, and without copies of the host.
+abbrev pub plain_form : RectForm → AnswerForm
+plain_form runs = record { runs = runs; zrle = false; copies = false }
+
+-- Viewers are answered without ZRLE and without copies of the host.
+pub record IsPlain (form : AnswerForm) : Type 0 where
+  pub zrle : form.zrle ≡ false
+  pub copies : form.copies ≡ false
+
+-- The setup of the definitions: the world's screen, its room and its form. Its viewers aren't told of sizes.
 abbrev pub setup_of : Kept → Setup
-setup_of k = record { w = k.width; h = k.height; name = k.name; room = k.room; runs = k.runs; host = None; zrle = false }
+setup_of k = record { w = k.width; h = k.height; name = k.name; room = k.room; form = plain_form k.runs; host = None }
 
 -- The world of the definitions that its schedule makes.
 abbrev pub world_of : Kept → World
@@ -158,7 +167,7 @@ pub record Reached (s : Setup) (standing : Standing) (w : World) : Type 0 where
   pub width : standing.screen.width ≡ s.w
   pub height : standing.screen.height ≡ s.h
   pub in_order : ArePutInOrder s w
-  pub plain : s.zrle ≡ false
+  pub plain : IsPlain s.form
   pub updates : AreSameFrom s.w s.h opening opening w.shared.updates standing.screen.updates
   pub tally : standing.screen.tally ≡ w.shared.tally
   pub host_width : standing.host.decoder.width ≡ s.w
@@ -220,7 +229,7 @@ pub record IsBrokenOff (old new : Held) : Type 0 where
 pub record HasTurned (old new : Held) (looked : ℕ) (us : List Update) : Type 0 where
   pub others : new ≡ with_session old new.session
   pub stays : (s : Setup) (p : Viewer) → Stands s old.session p → has_reason s.w s.h p.entries looked ≡ false → Stands s new.session (without_look p)
-  pub cuts : (s : Setup) (p : Viewer) → s.zrle ≡ false → HasCounted old.session us → Stands s old.session p → has_reason s.w s.h p.entries looked ≡ true → Stands s new.session (after_cut s us p)
+  pub cuts : (s : Setup) (p : Viewer) → IsPlain s.form → HasCounted old.session us → Stands s old.session p → has_reason s.w s.h p.entries looked ≡ true → Stands s new.session (after_cut s us p)
   pub counted : HasCounted old.session us → HasCounted new.session us
 
 -- The viewer went on with its turn, where it had looked; otherwise nothing changed.
@@ -264,7 +273,7 @@ TakesStep e old new = (s : Setup) (w : World) → Reached s old w → Reached s 
 
 -- The same as TakesStep, for a screen with this name, whose viewers are answered in this form and are told of no sizes.
 abbrev pub JoinsUnder : List ℕ → RectForm → Step → Standing → Standing → Type 0
-JoinsUnder name runs e old new = (s : Setup) (w : World) → s.name ≡ name → s.runs ≡ runs → s.host ≡ None → s.zrle ≡ false → Reached s old w → Reached s new (happens s w e)
+JoinsUnder name runs e old new = (s : Setup) (w : World) → s.name ≡ name → s.form ≡ plain_form runs → s.host ≡ None → Reached s old w → Reached s new (happens s w e)
 
 -- If the old fields stood for a world, the new ones stand for it, too.
 abbrev pub StaysFor : Standing → Standing → Type 0
@@ -282,7 +291,7 @@ Leaves old new fault = StaysSeen old new × (fault ≡ NumbersOut → StaysFor o
 -- If the old fields showed a world, the new ones show what this step makes of it, for a screen with this name, whose
 -- viewers are answered in this form and are told of no sizes.
 abbrev pub ShowsUnder : List ℕ → RectForm → Step → Standing → Standing → Type 0
-ShowsUnder name runs e old new = (s : Setup) (w : World) → s.name ≡ name → s.runs ≡ runs → s.host ≡ None → s.zrle ≡ false → Shows s old w → Shows s new (happens s w e)
+ShowsUnder name runs e old new = (s : Setup) (w : World) → s.name ≡ name → s.form ≡ plain_form runs → s.host ≡ None → Shows s old w → Shows s new (happens s w e)
 
 -- The same as ShowsUnder, whatever the name and the form.
 abbrev pub ShowsStep : Step → Standing → Standing → Type 0

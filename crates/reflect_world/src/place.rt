@@ -6,7 +6,7 @@ ghost use Rattle.raster.specs.Size.{IsScreenSize};
 ghost use Rattle.roles.specs.Held.{input_in};
 ghost use Rattle.viewer_session.specs.Session.{Stands, fault_in, is_ready};
 ghost use Rattle.viewer_session.specs.Viewer.{Setup, new_viewer};
-ghost use Rattle.reflect_world.specs.World.{GoesOn, HasLooked, HasSent, IsBrokenOff, IsFed, IsWritten, ReadsMore, WritesSome, left_by};
+ghost use Rattle.reflect_world.specs.World.{GoesOn, HasLooked, HasSent, IsBrokenOff, IsFed, IsWritten, ReadsMore, WritesSome, left_by, plain_form};
 
 use crate::unread::Unread;
 use fault::Fault;
@@ -58,11 +58,15 @@ impl Place {
             (place.looked ≡ None) × (place.written ≡ []) × (place.unread ≡ [])) }
         ensures uncut { IfOk result (λ place. place.session.asked.last ≡ None) }
         ensures stands { IfOk result (λ place. (s : Setup) → s.w ≡ width → s.h ≡ height
-            → s.name ≡ name.now → s.runs ≡ runs → s.host ≡ None → s.zrle ≡ false
+            → s.name ≡ name.now → s.form ≡ plain_form runs → s.host ≡ None
             → Stands s place.session (new_viewer role greet)) }
         ensures err { IfErr result (λ fault. fault ≡ Memory) }
     {
-        let form = AnswerForm { runs, zrle: false };
+        let form = AnswerForm {
+            runs,
+            zrle: false,
+            copies: false,
+        };
         let session = if greet {
             Session::open(alloc, width, height, name, role, form, None)?
         } else {

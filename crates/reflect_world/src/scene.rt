@@ -9,7 +9,7 @@ ghost use Rattle.roles.specs.Strokes.{dropped};
 ghost use Rattle.viewer_session.specs.Viewer.{Setup};
 ghost use Rattle.reflect_world.specs.Schedule.{Put, Raise, Join, HostBytes, Bytes, Look, Cut, Written, Send, Take, Leave, beginning, taken_from, Next};
 ghost use Rattle.reflect_core.specs.Plain.{IsPutRefusal};
-ghost use Rattle.reflect_world.specs.World.{waits_at, IsPut, IsReachable, IsRefusal, IsSeen, JoinsUnder, Leaves, Reached, ShowsStep, ShowsUnder, StaysSeen, TakesStep, left_by, place_at, step_of, step_with, IsUnread, StaysFor};
+ghost use Rattle.reflect_world.specs.World.{waits_at, IsPlain, IsPut, IsReachable, IsRefusal, IsSeen, JoinsUnder, Leaves, Reached, ShowsStep, ShowsUnder, StaysSeen, TakesStep, left_by, place_at, step_of, step_with, IsUnread, StaysFor};
 
 use crate::host::Host;
 use crate::place::Place;
@@ -59,7 +59,7 @@ impl Scene {
     pub(crate) fn new(alloc: Global, width: u64, height: u64, room: u64) -> Result<Self, Fault>
         requires { IsScreenSize width height }
         ensures ok { IfOk result (λ scene.
-            (s : Setup) → s.w ≡ width → s.h ≡ height → s.room ≡ room → s.zrle ≡ false
+            (s : Setup) → s.w ≡ width → s.h ≡ height → s.room ≡ room → IsPlain s.form
             → Reached s scene beginning) }
         ensures err { IfErr result (λ fault. fault ≡ Memory) }
     {

@@ -92,7 +92,7 @@ follows_cut s K laws us p looked n chosen lw lh greeted le up may k =
     record {
       n = n;
       known = le;
-      least = λ m after. let bound = began_least m (length first) (size_at s.w s.h s.host (Saw looked ∷ p.entries) first) (with_chosen chosen (update_at s.runs s.w s.h (Saw looked ∷ p.entries) first)) (Saw looked ∷ p.entries) after in omega (arith, bound, count);
+      least = λ m after. let bound = began_least m (length first) (size_at s.w s.h s.host (Saw looked ∷ p.entries) first) (with_chosen chosen (update_at s.form s.w s.h (Saw looked ∷ p.entries) first)) (Saw looked ∷ p.entries) after in omega (arith, bound, count);
       kept = laws.cut first (after_look looked p) chosen lw lh may before;
       early = λ wants. absurd (done_wants p.hello greeted wants);
     }

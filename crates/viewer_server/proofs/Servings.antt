@@ -271,7 +271,7 @@ turned_began n None (Some found) looked es = refl
 cut_front : (s : Setup) (us : List Update) (chosen : Option Chosen) (p : Viewer) → p.written ≤ length (out_bytes s p) → take p.written (out_bytes s (after_cut_as s us chosen p)) ≡ take p.written (out_bytes s p)
 cut_front s us chosen p le =
     let hello : List ℕ = if p.greet then said_to_viewer s.w s.h s.name p.said else [] in
-    let more : List ℕ = sent_as chosen s.runs s.w s.h s.host p.entries us in
+    let more : List ℕ = sent_as chosen s.form s.w s.h s.host p.entries us in
     same_front (out_bytes s p) (out_bytes s (after_cut_as s us chosen p)) more p.written (sym (append_assoc hello p.said_after more)) le
 
 pub serving_turns : {S : Type 0} (looks cuts : S → ℕ → S → Type 0) (a b c : S) (us known : List Update) (most now_most : ℕ) (s : Setup) (p : Viewer) (st next : State) (box : Unpassed) (x y : List Input) (w : Bool) (old now : LinkState)
@@ -316,7 +316,7 @@ serving_turns looks cuts a b c us known most now_most s p st next box x y true o
     let bounded = cut.bounded in
     let all : length first ≡ cut.number = let there = cut.known in omega (arith, length-take cut.number known, there) in
     let size : Option Size = size_at s.w s.h s.host (Saw t.looked ∷ q.entries) first in
-    let found : Option (Rect × List ℕ) = with_chosen made.chosen (update_at s.runs s.w s.h (Saw t.looked ∷ q.entries) first) in
+    let found : Option (Rect × List ℕ) = with_chosen made.chosen (update_at s.form s.w s.h (Saw t.looked ∷ q.entries) first) in
     record {
       acts = turn ∷ k.acts;
       begun = k.begun;

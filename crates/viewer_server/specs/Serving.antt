@@ -133,7 +133,7 @@ pub record Relays (was_set : Type 0) (may_refuse : Fault → Type 0) (p : Viewer
 -- doesn't take ZRLE holds the same.
 abbrev pub HoldsEither : Setup → List Update → Rect → ℕ → List ℕ → List Entry → Type 0
 HoldsEither s us area n bytes earlier =
-    HoldsAnswer s.w s.h us area n bytes earlier × (s.zrle ≡ false → HoldsArea (follower s.w s.h (received (Began area n bytes ∷ earlier))) area (take n us))
+    HoldsAnswer s.w s.h us area n bytes earlier × (s.form.zrle ≡ false → HoldsArea (follower s.w s.h (received (Began area n bytes ∷ earlier))) area (take n us))
 
 -- This holds after each answer; n is at least every number that was seen or cut at before; and a viewer that takes new
 -- sizes was told that of the host's screen after these n.

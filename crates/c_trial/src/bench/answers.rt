@@ -108,7 +108,7 @@ fn refresh(cut: &mut Cut, source: &Source, all: bool)
         w: cut.width,
         h: cut.height,
     };
-    cut.fill_with_copy(&source.board, &area, &source.have);
+    cut.fill_with_copy(&source.board, &area, &source.have, None);
     mark(cut.due.as_mut_slice(), all);
 }
 

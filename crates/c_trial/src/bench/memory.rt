@@ -13,6 +13,7 @@ use viewer_session::{AnswerForm, Session};
 const JOINED: AnswerForm = AnswerForm {
     runs: RectForm::Joined,
     zrle: false,
+    copies: true,
 };
 
 /// The most pieces that a session sends of an answer: its header, and one for each row of tiles.

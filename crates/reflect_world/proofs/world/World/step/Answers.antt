@@ -12,7 +12,7 @@ invariant_of-self-in-Ok-take c =
     let entry : ScheduleEntry = Played c.in-Ok.copy c.take.new.lost in
     kept_pushed (record { width = c.self.inside.width; height = c.self.inside.height; name = c.self.inside.name.items; room = c.self.inside.room; runs = c.self.inside.runs; steps = []; is_refused = c.self.inside.is_refused }) c.self.inside.schedule.items c.push.new.self.items entry c.self.inside.scene c.take.new.self c.self.invariant (ap (λ (k : Kept). k.is_refused) c.self.view_is ∙ c.requires)
     (c.in-Ok-push.ensures.items ∙ ap (λ es. es ++ entry ∷ []) c.reserve.ensures.items)
-    (λ s w named formed untold plain. subst (λ (e : Step). TakesStep e c.self.inside.scene c.take.new.self) (sym (c.in-Ok.ensures.marked c.take.new.lost.items)) c.in-Ok-take.ensures.ok s w)
+    (λ s w named formed untold. subst (λ (e : Step). TakesStep e c.self.inside.scene c.take.new.self) (sym (c.in-Ok.ensures.marked c.take.new.lost.items)) c.in-Ok-take.ensures.ok s w)
 
 pub invariant_of-self-after-matches : goal.invariant_of-self-after-matches
 invariant_of-self-after-matches c =
