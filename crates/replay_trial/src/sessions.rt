@@ -4,7 +4,6 @@ ghost use Rattle.std.specs.Prelude.{◌≡◌};
 ghost use Rattle.raster.specs.Size.{IsScreenSize};
 
 use crate::act::Act;
-use joined_runs::RectForm;
 use painter::Painter;
 use raster::{Rect, Size};
 use reflect_core::{PlainScreen, Puts, ScreenSource};
@@ -14,7 +13,7 @@ use std::alloc::Global;
 use viewer_session::{AnswerForm, Session};
 
 /// Plays the lines over a new session, with its hello or after it, and answers the first line that comes out otherwise.
-/// Where there is a host's size, the viewer is told of sizes. It may be answered in ZRLE where `zrle` says so.
+/// Where there is a host's size, the viewer is told of sizes. It is answered in this form.
 pub fn play_session<'a>(
     alloc: Global,
     width: u64,
@@ -22,14 +21,10 @@ pub fn play_session<'a>(
     lines: &'a str,
     greets: bool,
     host: Option<Size>,
-    zrle: bool,
+    form: AnswerForm,
 ) -> Option<&'a str>
     requires { IsScreenSize width height }
 {
-    let form = AnswerForm {
-        runs: RectForm::OfRows,
-        zrle,
-    };
     let opened = if greets {
         Session::open(alloc, width, height, b"T", Role::Full, form, host)
     } else {
@@ -76,6 +71,10 @@ fn holds(alloc: Global, session: &mut Session, screen: &mut PlainScreen, act: &A
             Err(_) => false,
         },
         "put" => puts(alloc, screen, None),
+        "copy" => match act.second() {
+            Some(y) => copies(alloc, screen, act.number, y),
+            None => false,
+        },
         "size" => match act.second() {
             Some(height) => {
                 let width = act.number;
@@ -113,6 +112,25 @@ fn puts(alloc: Global, screen: &mut PlainScreen, size: Option<Size>) -> bool
         Some(_) => return false,
         None => painter.put(area, &[0xFF0000, 0x0000FF]),
     }
+    match painter.patch() {
+        Ok(patch) => screen.put(patch).is_ok(),
+        Err(_) => false,
+    }
+}
+
+/// The first two pixels of the screen are copied to this place of it.
+fn copies(alloc: Global, screen: &mut PlainScreen, x: u64, y: u64) -> bool
+    ensures { (screen.new.width ≡ screen.old.width) × (screen.new.height ≡ screen.old.height) }
+{
+    let (w, h) = screen.size();
+    if w < 2 || w > 4096 || h < 1 || h > 4096 || x > w - 2 || y >= h {
+        return false;
+    }
+    let Ok(mut painter) = Painter::new(alloc, w, h) else {
+        return false;
+    };
+    let area = Rect { x, y, w: 2, h: 1 };
+    painter.copy(area, 0, 0);
     match painter.patch() {
         Ok(patch) => screen.put(patch).is_ok(),
         Err(_) => false,

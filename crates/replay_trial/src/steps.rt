@@ -4,11 +4,13 @@ ghost use Rattle.raster.specs.Size.{IsScreenSize};
 
 use crate::sessions::{play_held, play_session};
 use crate::worlds::play_world;
+use joined_runs::RectForm;
 use raster::Size;
 use roles::Role;
 use std::alloc::Global;
 use std::fs;
 use std::test::Fail;
+use viewer_session::AnswerForm;
 
 /// The widest and highest screen, in pixels.
 const LARGEST: u64 = 4096;
@@ -23,6 +25,27 @@ const PIXEL: Size = Size {
 const LARGER: Size = Size {
     width: 9,
     height: 1,
+};
+
+/// How a viewer is answered without ZRLE and copies of the host.
+const PLAIN: AnswerForm = AnswerForm {
+    runs: RectForm::OfRows,
+    zrle: false,
+    copies: false,
+};
+
+/// The same with ZRLE.
+const WITH_ZRLE: AnswerForm = AnswerForm {
+    runs: RectForm::OfRows,
+    zrle: true,
+    copies: false,
+};
+
+/// The same with copies of the host.
+const WITH_COPIES: AnswerForm = AnswerForm {
+    runs: RectForm::OfRows,
+    zrle: false,
+    copies: true,
 };
 
 /// Where bytes come in two pieces they are cut at each place up to this one.
@@ -62,25 +85,26 @@ impl<'a> Case<'a> {
         match self.kind {
             "world" => play_world(alloc, self.width, self.height, self.lines, 0),
             "cuts" => self.otherwise_cut(alloc),
-            "open" => self.otherwise_of(alloc, true, None, false),
-            "ready" => self.otherwise_of(alloc, false, None, false),
-            "zrle" => self.otherwise_of(alloc, false, None, true),
-            "sized" => self.otherwise_of(alloc, false, Some(PIXEL), false),
-            "larger" => self.otherwise_of(alloc, false, Some(LARGER), false),
+            "open" => self.otherwise_of(alloc, true, None, PLAIN),
+            "ready" => self.otherwise_of(alloc, false, None, PLAIN),
+            "zrle" => self.otherwise_of(alloc, false, None, WITH_ZRLE),
+            "copies" => self.otherwise_of(alloc, false, None, WITH_COPIES),
+            "sized" => self.otherwise_of(alloc, false, Some(PIXEL), PLAIN),
+            "larger" => self.otherwise_of(alloc, false, Some(LARGER), PLAIN),
             "full" => play_held(Role::Full, self.lines),
             "view" => play_held(Role::View, self.lines),
             _ => Some("no kind"),
         }
     }
 
-    /// The first such line of a session, with its hello or after it. Where there is a host's size, its viewer is told of
-    /// sizes, and this is the first.
+    /// The first such line of a session, with its hello or after it. Where there is a host's size, its viewer is told
+    /// of sizes, and this is the first.
     fn otherwise_of(
         &self,
         alloc: Global,
         greets: bool,
         host: Option<Size>,
-        zrle: bool,
+        form: AnswerForm,
     ) -> Option<&'a str>
         requires { IsScreenSize self.now.width self.now.height }
     {
@@ -91,7 +115,7 @@ impl<'a> Case<'a> {
             self.lines,
             greets,
             host,
-            zrle,
+            form,
         )
     }
 

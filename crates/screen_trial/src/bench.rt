@@ -4,6 +4,7 @@ ghost use Rattle.std.specs.Prelude.{◌≡◌, IsTrue};
 ghost use Rattle.raster.specs.Size.{IsScreenSize};
 
 use crate::boards::look;
+use crate::copies::tell_copies;
 use crate::formats::format_of;
 use crate::lines::Tried;
 use crate::paints::draw;
@@ -141,6 +142,7 @@ impl Bench {
                 text_of(alloc, numbers, given.bytes.as_slice())?,
             ),
             "again" => self.patch = self.patch.copy(alloc).ok()?,
+            "copies" => tell_copies(self.patch.copies(), seen)?,
             "tiles" => {
                 let (w, h) = self.patch.size();
                 let (tiles, colours) = self.patch.tiles();
@@ -226,7 +228,8 @@ impl Bench {
         Some(())
     }
 
-    /// Notes that an area was sent, or cuts it of the board, of what is shown, or of the source.
+    /// Notes that an area was sent, at a number, or cuts it of the board, of what is shown, or of the source. Where a
+    /// number is given, copies may be passed on to a viewer whose last answer has it.
     fn take(&mut self, word: &str, numbers: &[u64]) -> Option<()> {
         let (area, rest) = rect_of(numbers)?;
         if !area.within(65535, 65535) {
@@ -241,19 +244,24 @@ impl Bench {
         {
             return None;
         }
-        match (word, rest) {
-            ("keep", [number]) => self.viewed.have.keep(&area, None, *number),
-            ("cut", []) if is_inside => self
+        let number = match rest {
+            [] => None,
+            [number] => Some(*number),
+            _ => return None,
+        };
+        match word {
+            "keep" => self.viewed.have.keep(&area, None, number?),
+            "cut" if is_inside => self
                 .viewed
                 .cut
-                .fill_with_copy(&self.boards.board, &area, &self.viewed.have),
-            ("cut_shown", []) if is_inside => self
+                .fill_with_copy(&self.boards.board, &area, &self.viewed.have, number),
+            "cut_shown" if is_inside => self
                 .viewed
                 .cut
-                .fill(&self.lent.shown, &area, &self.viewed.have),
-            ("cut_source", []) if is_inside => {
+                .fill(&self.lent.shown, &area, &self.viewed.have, number),
+            "cut_source" if is_inside => {
                 self.source
-                    .cut(&area, &self.viewed.have, &mut self.viewed.cut)
+                    .cut(&area, &self.viewed.have, number, &mut self.viewed.cut)
                     .ok()?;
             }
             _ => return None,
@@ -277,6 +285,7 @@ impl Tried for Bench {
             | "bell"
             | "text"
             | "again"
+            | "copies"
             | "tiles"
             | "dots"
             | "put"

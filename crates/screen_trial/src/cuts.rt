@@ -3,19 +3,21 @@
 ghost use Rattle.std.specs.Prelude.{◌+◌, ◌*◌, ◌≤◌, length};
 ghost use Rattle.raster.specs.Screen.{IsWithin};
 
+use crate::copies::tell_copies;
 use crate::formats::format_of;
 use crate::lines::Tried;
 use crate::rects::rect_of;
 use crate::values::Values;
+use copy_log::{CopyLog, CopyRect, SentAt};
 use fault::Fault;
 use joined_runs::RectForm;
 use painter::{Board, Painter};
 use raster::{Encoding, Rect};
 use reflect_core::Cut;
-use rfb_wire::{Choice, write_update_head};
+use rfb_wire::Choice;
 use std::alloc::Global;
 use tiles::Have;
-use update_encoder::{Answer, Style};
+use update_encoder::{Answer, LONGEST_FRONT, Style};
 
 /// Fills a cut with a screen whose first pixel has the first colour, whose last one has the last, and all between the
 /// other.
@@ -37,7 +39,7 @@ fn paint(alloc: Global, cut: &mut Cut, colours: &[u32; 3]) -> Result<(), Fault> 
     if board.number() == 0 {
         board.apply(&painter.patch()?, None);
     }
-    cut.fill_with_copy(&board, &all, &Have::new(alloc, width, height)?);
+    cut.fill_with_copy(&board, &all, &Have::new(alloc, width, height)?, None);
     Ok(())
 }
 
@@ -55,10 +57,10 @@ fn tell_answer(
     requires room { 12 + 64 * cut.now.width ≤ length out.old }
 {
     let mut answer = Answer::start(cut, area, style);
-    let mut head = [0; 4];
-    write_update_head(answer.count() as u16, &mut head);
-    seen.spell(&head)?;
-    let mut len: u64 = 4;
+    let mut front = [0; LONGEST_FRONT];
+    let count = answer.write_front(cut, &mut front);
+    seen.spell(&front[..count])?;
+    let mut len = count as u64;
     for _turn in 0..answer.count() {
         let count = answer.next(cut, values, out)?;
         seen.spell(&out[..count])?;
@@ -68,6 +70,25 @@ fn tell_answer(
         return None;
     }
     seen.tell(&[len])
+}
+
+/// Passes a copy of the host on, to a viewer that was sent the whole screen before it.
+fn pass_copy(alloc: Global, cut: &mut Cut, copy: CopyRect) -> Result<(), Fault> {
+    let (width, height) = (cut.width, cut.height);
+    let all = Rect {
+        x: 0,
+        y: 0,
+        w: width,
+        h: height,
+    };
+    let mut log = CopyLog::new(alloc, width, height)?;
+    if log.number() == 0 {
+        log.note(&[copy], &[]);
+    }
+    let mut have = Have::new(alloc, width, height)?;
+    have.keep(&all, None, 0);
+    log.pass(0, &all, &SentAt::new(&have, 0), &mut cut.passed);
+    Ok(())
 }
 
 /// Tells the same of an answer, written with just the room that a rectangle may need. The numbers say the encoding,
@@ -105,7 +126,7 @@ fn answer(alloc: Global, cut: &Cut, given: &Values, seen: &mut Values) -> Option
 }
 
 /// Tells what a cut shows: its number, its Bells, its text, whether each due tile was sent, and for each tile whether
-/// it is due.
+/// it is still due.
 fn tell_cut(cut: &Cut, seen: &mut Values) -> Option<()> {
     let text = cut.text.number().unwrap_or(0);
     seen.tell(&[cut.number, cut.bells, text, u64::from(cut.all_were_sent)])?;
@@ -127,11 +148,17 @@ impl Tried for Cut {
                 }
                 Some(())
             }
+            ("copied", numbers) => {
+                let (area, source) = rect_of(numbers)?;
+                let [x, y] = *source.as_array::<2>()?;
+                pass_copy(alloc, self, CopyRect { area, x, y }).ok()
+            }
             ("were_sent", [were_sent]) => {
                 self.all_were_sent = *were_sent == 1;
                 Some(())
             }
             ("shown", []) => tell_cut(self, seen),
+            ("passed", []) => tell_copies(self.passed.copies(), seen),
             ("at", places) => seen.pick(self.colours.as_slice(), places),
             ("lends", numbers) => {
                 let (area, _) = rect_of(numbers)?;

@@ -3,6 +3,7 @@
 ghost use Rattle.host_decoder.specs.Decoder.{IsFor};
 ghost use Rattle.raster.specs.Size.{IsScreenSize};
 
+use crate::copies::tell_copies;
 use crate::lines::{Tried, otherwise};
 use crate::values::Values;
 use host_decoder::{HostEvent, HostScreen};
@@ -20,13 +21,14 @@ struct Host {
     ghost pair: { IsFor screen.decoder screen.painter },
 }
 
-/// Adds what a whole message brings: its type (RFC 6143, 7.6), the tiles and colours of an update, and a text that is
-/// kept.
+/// Adds what a whole message brings: its type (RFC 6143, 7.6), the copies, tiles and colours of an update, and a text
+/// that is kept.
 fn tell_event(event: &HostEvent, seen: &mut Values) -> Option<()> {
     match event {
         HostEvent::Paint(patch) => {
             let (numbers, colours) = patch.tiles();
             seen.tell(&[0])?;
+            tell_copies(patch.copies(), seen)?;
             seen.tell(numbers)?;
             seen.show(colours)
         }

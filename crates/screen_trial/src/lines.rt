@@ -19,7 +19,8 @@ struct Line {
 }
 
 impl Line {
-    /// Plays `WORD GIVEN: TOLD`, and answers whether what is seen is what is told. Without a colon nothing is to be seen.
+    /// Plays `WORD GIVEN: TOLD`, and answers whether what is seen is what is told. Without a colon nothing is to be
+    /// seen.
     fn is_so<T: Tried>(&mut self, alloc: Global, tried: &mut T, line: &str) -> bool {
         let (act, told) = line.split_once(": ").unwrap_or((line, ""));
         let (word, given) = act.split_once(' ').unwrap_or((act, ""));

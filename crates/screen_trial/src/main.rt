@@ -5,6 +5,7 @@
 mod bench;
 mod boards;
 mod case;
+mod copies;
 mod cuts;
 mod formats;
 mod hosts;

@@ -87,7 +87,7 @@ impl Tried for Viewer {
         let numbers = given.numbers.as_slice();
         match (word, numbers) {
             ("new_format", []) => self.asked.new_format(),
-            ("answered", []) => self.asked.answered(),
+            ("answered", [number]) => self.asked.answered(*number),
             ("was_cut", [number]) => self.asked.was_cut(*number),
             ("asked", []) => {
                 seen.tell(&[u64::from(self.asked.has_asked())])?;
