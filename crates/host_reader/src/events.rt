@@ -14,8 +14,9 @@ use host_decoder::{HostDecoder, HostEvent};
 use painter::{Painter, Patch};
 use reflect_core::Puts;
 
-/// Puts a patch into the list of updates.
-fn put_patch<P: Puts>(publisher: &mut P, patch: Patch) -> Result<(), Fault>
+/// Puts a patch, of the publisher's size, into the list of updates. It fails with `Memory` where memory is refused, and
+/// with `NumbersOut` where there is no number for the update. Then nothing has changed.
+pub fn put_patch<P: Puts>(publisher: &mut P, patch: Patch) -> Result<(), Fault>
     requires { (patch.width ≡ P.width publisher.old) × (patch.height ≡ P.height publisher.old) }
     ensures size { KeepsSize P.width P.height publisher.old publisher.new }
     ensures ok { OnOk result (P.updates publisher.new

@@ -9,5 +9,6 @@ mod hear;
 mod reading;
 mod run;
 
+pub use events::put_patch;
 pub use reading::{HostBeginning, Reading};
 pub use run::{ReadsOn, read_host, read_on, run_host};

@@ -1,15 +1,17 @@
 -- A run grows by one turn. The loop over the hosts keeps that all turns so far are a run.
 use Rattle.std.proofs.Common.{◌≡◌, ℕ, ◌≤◌, Bool, true, List, [], ◌∷◌, ◌++◌, length, Option, Result, Err, refl, ap, subst, inl, inr, ◌∙◌}
 use Rattle.fault.specs.declared.kinds.Fault.{Fault}
-use Rattle.raster.specs.declared.size.Size.{Size}
+use Rattle.raster.specs.Screen.{Canvas}
+use Rattle.raster.specs.Switch.{switch}
 use Rattle.raster.specs.Update.{Update}
 use Rattle.rfb_wire.specs.Handshake.{Joined}
 use Rattle.link.specs.Links.{LinkState}
 use Rattle.link.specs.Joins.{Joins}
-use Rattle.painter.proofs.Switches.{at_size}
+use Rattle.painter.specs.Same.{AreSameUpdates}
+use Rattle.reflect_core.specs.Plain.{IsPutRefusal}
 use Rattle.host_turns.specs.declared.ending.Ending.{Ending}
 use Rattle.host_turns.specs.Moment.{IsBegun}
-use Rattle.host_turns.specs.Running.{Coming, HasRun, HasTurn, IsMet, IsMissed, IsRead, IsSwitched, IsTurn, JoinsWithin, Missed, Read, came_over, goes_on, links_with, put_with}
+use Rattle.host_turns.specs.Running.{Coming, HasRun, HasTurn, IsMet, IsMissed, IsRead, IsTurn, IsWant, JoinsWithin, Missed, Read, came_over, goes_on, links_with, put_with}
 
 pub one_more : (w h : ℕ) (password : Option (List ℕ)) (comes : Coming → Type 0) (before last_end : Ending) (came : Coming) (links_old links_new : List LinkState) (old now new : List Update)
     → HasRun w h password comes before came links_old old now → goes_on before ≡ true → HasTurn w h password comes last_end links_old links_new now new → HasRun w h password comes last_end came links_new old new
@@ -51,22 +53,22 @@ pub missed : (w h : ℕ) (password : Option (List ℕ)) (comes : Coming → Type
 missed w h password comes before last_end first has_called link links old now run on there why =
     one_more w h password comes before last_end first links links old now now run on (record { turn = Missed has_called why.0; is = (link, there, why.2); ends = why.1; handed = refl; put = refl })
 
--- The size of a host's screen.
-abbrev pub size_of : Joined → Size
-size_of host = record { width = host.w; height = host.h }
-
 -- A host was joined that fits into the room.
 pub joins_within : (w h : ℕ) (password : Option (List ℕ)) (link_old link_new : LinkState) (host : Joined) → Joins password link_old link_new host → (host.w ≤ w) × (host.h ≤ h) → JoinsWithin w h password link_old link_new
 joins_within w h password link_old link_new host joins fits = record { host = host; joins = joins; width = fits.0; height = fits.1 }
 
--- And then the switch to it was put, on a screen of the room's size.
-pub met : (w h v k : ℕ) (password : Option (List ℕ)) (link_old link_new : LinkState) (host : Joined) (old new : List Update)
-    → Joins password link_old link_new host → (host.w ≤ w) × (host.h ≤ h) → v ≡ w → k ≡ h → IsSwitched v k host old new → IsMet w h password link_old link_new old new
-met w h v k password link_old link_new host old new joins fits wide high switched =
-    record {
-      joins = record { host = host; joins = joins; width = fits.0; height = fits.1 };
-      switched = at_size (λ n m. IsSwitched n m host old new) v k w h wide high switched;
-    }
+-- And then the switch to it was put.
+pub met : (w h : ℕ) (password : Option (List ℕ)) (link_old link_new : LinkState) (host : Joined) (put : Update) (old new : List Update)
+    → Joins password link_old link_new host → (host.w ≤ w) × (host.h ≤ h) → new ≡ old ++ put ∷ []
+    → ((start : Canvas) → AreSameUpdates w h start (switch host.w host.h ∷ []) (put ∷ [])) → IsMet w h password link_old link_new old new
+unfolding joins_within
+met w h password link_old link_new host put old new joins fits added same =
+    record { joins = joins_within w h password link_old link_new host joins fits; switched = record { put = put; added = added; same = same } }
+
+-- Where a patch isn't put, something is wanting.
+pub wants : (count : ℕ) (fault : Fault) → IsPutRefusal count fault → IsWant count fault
+wants count fault (inl refused) = inl refused.1
+wants count fault (inr out) = inr (out.1, out.0)
 
 -- A host came and was joined, and the switch to it was put.
 pub begun : (w h : ℕ) (password : Option (List ℕ)) (comes : Coming → Type 0) (last : Ending) (first : Coming) (has_called : Bool) (link joined : LinkState) (links : List LinkState) (old shown now : List Update)

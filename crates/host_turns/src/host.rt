@@ -11,12 +11,12 @@ ghost use Rattle.host_decoder.specs.Decoder.{Decodes, IsFor, host_message};
 ghost use Rattle.fault.specs.declared.kinds.Fault.TheVariants.{Memory};
 ghost use Rattle.host_reader.specs.Running.{AwaitsMessage};
 ghost use Rattle.host_reader.specs.Sizes.{HasSize, KeepsSize};
-ghost use Rattle.host_turns.specs.Running.{IsMissed, IsReadOut, IsMet, IsSwitched, IsUnfit, IsWant};
+ghost use Rattle.host_turns.specs.Running.{IsMissed, IsReadOut, IsMet, IsUnfit};
 
 use crate::supply::Hosts;
 use fault::Fault;
 use host_decoder::HostScreen;
-use host_reader::{ReadsOn, read_host};
+use host_reader::{ReadsOn, put_patch, read_host};
 use link::{JoinsOn, Link, join_by};
 use painter::Patch;
 use raster::Size;
@@ -83,24 +83,6 @@ fn join_within<L: Link, F: JoinsOn<L>>(
     Ok(joined)
 }
 
-/// Puts the patch of a switch to a host of this size: the screen turns black.
-fn put_switch<P: Puts>(patch: Patch, size: Size, publisher: &mut P) -> Result<(), Fault>
-    requires publisher { HasSize P.width P.height publisher.old patch.width patch.height }
-    requires same { (start : Canvas)
-        → AreSameUpdates patch.width patch.height start (switch_to size ∷ []) (patch.update ∷ []) }
-    ensures publisher { KeepsSize P.width P.height publisher.old publisher.new }
-    ensures ok { OnOk result ((host : Joined) → size ≡ record { width = host.w; height = host.h }
-        → IsSwitched patch.width patch.height host (P.updates publisher.old)
-        (P.updates publisher.new)) }
-    ensures err { IfErr result (λ fault. IsWant (length (P.updates publisher.old)) fault
-        × (P.updates publisher.new ≡ P.updates publisher.old)) }
-{
-    match publisher.put(patch) {
-        Ok(_) => Ok(()),
-        Err((fault, _patch)) => Err(fault),
-    }
-}
-
 /// Takes all the memory that a further host of this size needs: room for its link, what reads the host, and the patch
 /// of its switch.
 fn make_ready<L>(
@@ -164,6 +146,6 @@ pub(crate) fn meet<L: Link, H: Hosts<L>, P: Puts, F: JoinsOn<L>>(
     };
     hosts.joined(link, &joined);
     let (screen, patch) = make_ready(run_screen, size, links)?;
-    put_switch(patch, size, publisher)?;
+    put_patch(publisher, patch)?;
     Ok(screen)
 }

@@ -55,14 +55,16 @@ where
     T: Drop,
     R: Wait,
     requires begins { Decodes run.screen.decoder run.screen.painter opening
-        (host_message run.run_screen.now.width run.run_screen.now.height) }
-    requires none { run.links.items ≡ [] }
-    ensures run { HasRun run.entry.run_screen.now.width run.entry.run_screen.now.height
-        run.entry.run_screen.now.password (IsComing L.state H.came) result.last
-        (came_over run.entry.has_called (L.state run.entry.reader)) (map L.state result.links.items)
-        (P.updates run.entry.publisher) (P.updates result.publisher) }
-    ensures over { IsOver H.are_out result.hosts result.last }
-    ensures never { goes_on result.last ≡ true → H.again run.entry.first.now.hosts.value ≡ None }
+        (host_message run.lent.run_screen.now.width run.lent.run_screen.now.height) }
+    requires none { run.parts.links.items ≡ [] }
+    ensures run { HasRun run.entry.lent.run_screen.now.width run.entry.lent.run_screen.now.height
+        run.entry.lent.run_screen.now.password (IsComing L.state H.came) result.last
+        (came_over run.entry.has_called (L.state run.entry.reader))
+        (map L.state result.parts.links.items) (P.updates run.entry.parts.publisher)
+        (P.updates result.parts.publisher) }
+    ensures over { IsOver H.are_out result.parts.hosts result.last }
+    ensures never { goes_on result.last ≡ true
+        → H.again run.entry.lent.first.now.hosts.value ≡ None }
 {
     let waiting = Waiting { rt };
     let mut idle = run.read(&waiting);

@@ -59,6 +59,24 @@ impl<L, H, P> RunBeginning<L, H, P> {
     }
 }
 
+/// What a run is lent: what all hosts have in common, where they are handed over, and how it all began. It stays the
+/// same from stage to stage. A `T` is the key that takes a run apart.
+struct Lent<'a, L: Link, H: Hosts<L>, P: Puts, W: Alarm + Drop, T: Drop> {
+    run_screen: &'a RunScreen,
+    handover: &'a Handover<L, W>,
+    // No step can put another beginning in its place.
+    first: &'a RunBeginning<L, H, P>,
+    key: PhantomData<T>,
+}
+
+/// What a run owns at every stage, and hands on to the next: where further hosts come from, the links of those that
+/// were read, and the publisher to which updates are put.
+struct RunParts<L: Link, H: Hosts<L>, P: Puts> {
+    hosts: H,
+    links: Vec<L>,
+    publisher: P,
+}
+
 /// The first host of a run, which was joined: the end of its connection that is read, whether it has called, what reads
 /// it, and room for its link beside those of the hosts after it.
 #[derive(Drop)]
@@ -76,87 +94,72 @@ pub struct FirstHost<L: Link> {
 /// calls that it makes end, and `lawful` holds at its end. A `T` is the key that takes a run apart: whoever is given a
 /// run can't make one.
 pub struct JoinedRun<'a, L: Link, H: Hosts<L>, P: Puts, W: Alarm + Drop, T: Drop> {
-    run_screen: &'a RunScreen,
-    handover: &'a Handover<L, W>,
+    lent: Lent<'a, L, H, P, W, T>,
+    parts: RunParts<L, H, P>,
     has_called: bool,
     reader: L,
     screen: HostScreen,
-    hosts: H,
-    links: Vec<L>,
-    publisher: P,
-    // How it all began. It is lent, so no step can put another beginning in its place.
-    first: &'a RunBeginning<L, H, P>,
-    key: PhantomData<T>,
-    ghost room: { vec_len links < vec_capacity links },
-    ghost sized: { (screen.decoder.width ≡ run_screen.now.width)
-        × (screen.decoder.height ≡ run_screen.now.height) },
+    ghost room: { vec_len parts.links < vec_capacity parts.links },
+    ghost sized: { (screen.decoder.width ≡ lent.run_screen.now.width)
+        × (screen.decoder.height ≡ lent.run_screen.now.height) },
     ghost paired: { (screen.painter.width ≡ screen.decoder.width)
         × (screen.painter.height ≡ screen.decoder.height) },
-    ghost size: { HasSize P.width P.height publisher run_screen.now.width run_screen.now.height },
-    ghost again: { H.again hosts ≡ H.again first.now.hosts.value },
-    ghost lawful: { ∥ IsBegun run_screen.now.width run_screen.now.height run_screen.now.password
-        (IsComing L.state H.came)
-        (came_over first.now.has_called.value (L.state first.now.reader.value))
-        (came_over has_called (L.state reader)) (map L.state links.items)
-        (P.updates first.now.publisher.value) (P.updates publisher) ∥₁ },
+    ghost size: { HasSize P.width P.height parts.publisher lent.run_screen.now.width
+        lent.run_screen.now.height },
+    ghost again: { H.again parts.hosts ≡ H.again lent.first.now.hosts.value },
+    ghost lawful: { ∥ IsBegun lent.run_screen.now.width lent.run_screen.now.height
+        lent.run_screen.now.password (IsComing L.state H.came)
+        (came_over lent.first.now.has_called.value (L.state lent.first.now.reader.value))
+        (came_over has_called (L.state reader)) (map L.state parts.links.items)
+        (P.updates lent.first.now.publisher.value) (P.updates parts.publisher) ∥₁ },
 }
 
 /// A run between two hosts. `last` is how reading the last host ended, or how joining it did.
 pub struct IdleRun<'a, L: Link, H: Hosts<L>, P: Puts, W: Alarm + Drop, T: Drop> {
-    run_screen: &'a RunScreen,
-    handover: &'a Handover<L, W>,
+    lent: Lent<'a, L, H, P, W, T>,
+    parts: RunParts<L, H, P>,
     last: Ending,
-    hosts: H,
-    links: Vec<L>,
-    publisher: P,
-    first: &'a RunBeginning<L, H, P>,
-    key: PhantomData<T>,
-    ghost size: { HasSize P.width P.height publisher run_screen.now.width run_screen.now.height },
-    ghost again: { H.again hosts ≡ H.again first.now.hosts.value },
-    ghost lawful: { ∥ HasRun run_screen.now.width run_screen.now.height run_screen.now.password
-        (IsComing L.state H.came) last
-        (came_over first.now.has_called.value (L.state first.now.reader.value))
-        (map L.state links.items) (P.updates first.now.publisher.value) (P.updates publisher) ∥₁ },
+    ghost size: { HasSize P.width P.height parts.publisher lent.run_screen.now.width
+        lent.run_screen.now.height },
+    ghost again: { H.again parts.hosts ≡ H.again lent.first.now.hosts.value },
+    ghost lawful: { ∥ HasRun lent.run_screen.now.width lent.run_screen.now.height
+        lent.run_screen.now.password (IsComing L.state H.came) last
+        (came_over lent.first.now.has_called.value (L.state lent.first.now.reader.value))
+        (map L.state parts.links.items) (P.updates lent.first.now.publisher.value)
+        (P.updates parts.publisher) ∥₁ },
 }
 
 /// A run for whose next host both ends of a connection have come: one to be read, and a sealed one to be written. The
 /// host isn't joined yet.
 pub struct MetRun<'a, L: Link, H: Hosts<L>, P: Puts, W: Alarm + Drop, T: Drop> {
-    run_screen: &'a RunScreen,
-    handover: &'a Handover<L, W>,
+    lent: Lent<'a, L, H, P, W, T>,
+    parts: RunParts<L, H, P>,
     last: Ending,
     has_called: bool,
     reader: L,
     writer: SealedEnd<L>,
-    hosts: H,
-    links: Vec<L>,
-    publisher: P,
-    first: &'a RunBeginning<L, H, P>,
-    key: PhantomData<T>,
     ghost on: { goes_on last ≡ true },
-    ghost size: { HasSize P.width P.height publisher run_screen.now.width run_screen.now.height },
-    ghost again: { H.again hosts ≡ H.again first.now.hosts.value },
+    ghost size: { HasSize P.width P.height parts.publisher lent.run_screen.now.width
+        lent.run_screen.now.height },
+    ghost again: { H.again parts.hosts ≡ H.again lent.first.now.hosts.value },
     ghost lawful: { ∥ (H.came has_called reader
-        × HasRun run_screen.now.width run_screen.now.height run_screen.now.password
-        (IsComing L.state H.came) last
-        (came_over first.now.has_called.value (L.state first.now.reader.value))
-        (map L.state links.items) (P.updates first.now.publisher.value) (P.updates publisher)) ∥₁ },
+        × HasRun lent.run_screen.now.width lent.run_screen.now.height
+        lent.run_screen.now.password (IsComing L.state H.came) last
+        (came_over lent.first.now.has_called.value (L.state lent.first.now.reader.value))
+        (map L.state parts.links.items) (P.updates lent.first.now.publisher.value)
+        (P.updates parts.publisher)) ∥₁ },
 }
 
 /// A run that is over: after the end of its last host no further one is taken, or no host is left.
 pub struct EndedRun<'a, L: Link, H: Hosts<L>, P: Puts, W: Alarm + Drop, T: Drop> {
-    run_screen: &'a RunScreen,
-    handover: &'a Handover<L, W>,
+    lent: Lent<'a, L, H, P, W, T>,
+    parts: RunParts<L, H, P>,
     last: Ending,
-    hosts: H,
-    links: Vec<L>,
-    publisher: P,
-    first: &'a RunBeginning<L, H, P>,
-    key: PhantomData<T>,
-    ghost lawful: { ∥ HasRun run_screen.now.width run_screen.now.height run_screen.now.password
-        (IsComing L.state H.came) last
-        (came_over first.now.has_called.value (L.state first.now.reader.value))
-        (map L.state links.items) (P.updates first.now.publisher.value) (P.updates publisher) ∥₁ },
+    ghost lawful: { ∥ HasRun lent.run_screen.now.width lent.run_screen.now.height
+        lent.run_screen.now.password (IsComing L.state H.came) last
+        (came_over lent.first.now.has_called.value (L.state lent.first.now.reader.value))
+        (map L.state parts.links.items) (P.updates lent.first.now.publisher.value)
+        (P.updates parts.publisher) ∥₁ },
 }
 
 impl<'a, L: Link, H: Hosts<L>, P: Puts, W: Alarm + Drop, T: Drop> JoinedRun<'a, L, H, P, W, T> {
@@ -179,9 +182,10 @@ impl<'a, L: Link, H: Hosts<L>, P: Puts, W: Alarm + Drop, T: Drop> JoinedRun<'a, 
         requires publisher { HasSize P.width P.height publisher run_screen.now.width
             run_screen.now.height }
         ensures parts { (result.has_called ≡ host.has_called) × (result.reader ≡ host.reader)
-            × (result.screen ≡ host.screen) × (result.links ≡ host.links)
-            × (result.publisher ≡ publisher) }
-        ensures lent { (result.first ≡ first.entry) × (result.run_screen ≡ run_screen.entry) }
+            × (result.screen ≡ host.screen) × (result.parts.links ≡ host.links)
+            × (result.parts.publisher ≡ publisher) }
+        ensures lent { (result.lent.first ≡ first.entry)
+            × (result.lent.run_screen ≡ run_screen.entry) }
     {
         let FirstHost {
             reader,
@@ -189,17 +193,23 @@ impl<'a, L: Link, H: Hosts<L>, P: Puts, W: Alarm + Drop, T: Drop> JoinedRun<'a, 
             screen,
             links,
         } = host;
-        JoinedRun {
+        let lent = Lent {
             run_screen,
             handover,
-            has_called,
-            reader,
-            screen,
+            first,
+            key: PhantomData,
+        };
+        let parts = RunParts {
             hosts,
             links,
             publisher,
-            first,
-            key: PhantomData,
+        };
+        JoinedRun {
+            lent,
+            parts,
+            has_called,
+            reader,
+            screen,
         }
     }
 
@@ -207,66 +217,58 @@ impl<'a, L: Link, H: Hosts<L>, P: Puts, W: Alarm + Drop, T: Drop> JoinedRun<'a, 
     /// the run was before, how the host was joined, and that since then nothing was put but the switch to it. From then
     /// on `host_reader::Reading::so_far` says what is true.
     pub fn so_far(&self)
-        ensures { ∥ IsBegun self.now.run_screen.now.width self.now.run_screen.now.height
-            self.now.run_screen.now.password (IsComing L.state H.came)
-            (came_over self.now.first.now.has_called.value
-            (L.state self.now.first.now.reader.value))
+        ensures { ∥ IsBegun self.now.lent.run_screen.now.width self.now.lent.run_screen.now.height
+            self.now.lent.run_screen.now.password (IsComing L.state H.came)
+            (came_over self.now.lent.first.now.has_called.value
+            (L.state self.now.lent.first.now.reader.value))
             (came_over self.now.has_called (L.state self.now.reader))
-            (map L.state self.now.links.items) (P.updates self.now.first.now.publisher.value)
-            (P.updates self.now.publisher) ∥₁ }
+            (map L.state self.now.parts.links.items)
+            (P.updates self.now.lent.first.now.publisher.value)
+            (P.updates self.now.parts.publisher) ∥₁ }
     {}
 
     /// Where the thread that tells the hosts is handed the host's other end.
     pub(crate) fn handover(&self) -> &'a Handover<L, W> {
-        self.handover
+        self.lent.handover
     }
 
     /// Reads the host to its end. After that the host is told nothing more, and its link is added to the others. `by`
     /// is lent the host's reading, and nothing else.
     pub fn read<F: ReadsOn<L, P>>(self, by: &F) -> IdleRun<'a, L, H, P, W, T>
         requires { Decodes self.screen.decoder self.screen.painter opening
-            (host_message self.run_screen.now.width self.run_screen.now.height) }
+            (host_message self.lent.run_screen.now.width self.lent.run_screen.now.height) }
         ensures called { result.last
             ≡ record { answer = result.last.answer; has_called = self.entry.has_called } }
         ensures read { (left : LinkState)
-            × (map L.state result.links.items ≡ map L.state self.entry.links.items ++ left ∷ [])
-            × IsRead self.entry.run_screen.now.width self.entry.run_screen.now.height
-            result.last.answer (L.state self.entry.reader) left (P.updates self.entry.publisher)
-            (P.updates result.publisher) }
-        ensures lent { (result.first ≡ self.entry.first)
-            × (result.run_screen ≡ self.entry.run_screen) }
+            × (map L.state result.parts.links.items
+            ≡ map L.state self.entry.parts.links.items ++ left ∷ [])
+            × IsRead self.entry.lent.run_screen.now.width self.entry.lent.run_screen.now.height
+            result.last.answer (L.state self.entry.reader) left
+            (P.updates self.entry.parts.publisher) (P.updates result.parts.publisher) }
+        ensures lent { result.lent ≡ self.entry.lent }
     {
         let JoinedRun {
-            run_screen,
-            handover,
+            lent,
+            mut parts,
             has_called,
             mut reader,
             screen,
-            mut hosts,
-            mut links,
-            mut publisher,
-            first,
-            key,
         } = self;
-        let answer = read(by, run_screen.alloc, &mut reader, screen, &mut publisher);
-        handover.leave();
+        let alloc = lent.run_screen.alloc;
+        let answer = read(by, alloc, &mut reader, screen, &mut parts.publisher);
+        lent.handover.leave();
         // The answer is also kept: the kit's borrow checker wants its copy made before the call.
         let last = answer;
-        hosts.left(&mut reader, answer);
+        parts.hosts.left(&mut reader, answer);
         // This isn't refused, since the room was taken before.
-        let _ = links.push(reader);
+        let _ = parts.links.push(reader);
         IdleRun {
-            run_screen,
-            handover,
+            lent,
+            parts,
             last: Ending {
                 answer: last,
                 has_called,
             },
-            hosts,
-            links,
-            publisher,
-            first,
-            key,
         }
     }
 }
@@ -276,12 +278,13 @@ impl<'a, L: Link, H: Hosts<L>, P: Puts, W: Alarm + Drop, T: Drop> IdleRun<'a, L,
     /// bytes that were taken from the hosts, in turn, with a switch before each host but the first. Over the end that
     /// is read no host was given anything after its join. The links so far are those of the hosts that were read.
     pub fn so_far(&self)
-        ensures { ∥ HasRun self.now.run_screen.now.width self.now.run_screen.now.height
-            self.now.run_screen.now.password (IsComing L.state H.came) self.now.last
-            (came_over self.now.first.now.has_called.value
-            (L.state self.now.first.now.reader.value))
-            (map L.state self.now.links.items) (P.updates self.now.first.now.publisher.value)
-            (P.updates self.now.publisher) ∥₁ }
+        ensures { ∥ HasRun self.now.lent.run_screen.now.width self.now.lent.run_screen.now.height
+            self.now.lent.run_screen.now.password (IsComing L.state H.came) self.now.last
+            (came_over self.now.lent.first.now.has_called.value
+            (L.state self.now.lent.first.now.reader.value))
+            (map L.state self.now.parts.links.items)
+            (P.updates self.now.lent.first.now.publisher.value)
+            (P.updates self.now.parts.publisher) ∥₁ }
     {}
 
     /// Asks for the next host, where one is taken after the end of the last. It answers the run that is over where none
@@ -289,47 +292,26 @@ impl<'a, L: Link, H: Hosts<L>, P: Puts, W: Alarm + Drop, T: Drop> IdleRun<'a, L,
     pub fn next(self) -> Result<MetRun<'a, L, H, P, W, T>, EndedRun<'a, L, H, P, W, T>>
         ensures came { IfOk result (λ met. H.came met.has_called met.reader) }
         ensures met { IfOk result (λ met. (met.last ≡ self.entry.last)
-            × (met.links ≡ self.entry.links) × (met.publisher ≡ self.entry.publisher)
-            × (met.first ≡ self.entry.first) × (met.run_screen ≡ self.entry.run_screen)) }
+            × (met.parts.links ≡ self.entry.parts.links)
+            × (met.parts.publisher ≡ self.entry.parts.publisher)
+            × (met.lent ≡ self.entry.lent)) }
         ensures ended { IfErr result (λ ended. (ended.last ≡ self.entry.last)
-            × (ended.links ≡ self.entry.links) × (ended.publisher ≡ self.entry.publisher)) }
-        ensures over { IfErr result (λ ended. IsOver H.are_out ended.hosts ended.last) }
+            × (ended.parts.links ≡ self.entry.parts.links)
+            × (ended.parts.publisher ≡ self.entry.parts.publisher)) }
+        ensures over { IfErr result (λ ended. IsOver H.are_out ended.parts.hosts ended.last) }
         ensures never { IfErr result (λ ended.
-            goes_on ended.last ≡ true → H.again self.entry.first.now.hosts.value ≡ None) }
+            goes_on ended.last ≡ true → H.again self.entry.lent.first.now.hosts.value ≡ None) }
     {
         let IdleRun {
-            run_screen,
-            handover,
+            lent,
+            mut parts,
             last,
-            mut hosts,
-            links,
-            publisher,
-            first,
-            key,
         } = self;
         if !goes_on(&last) {
-            return Err(EndedRun {
-                run_screen,
-                handover,
-                last,
-                hosts,
-                links,
-                publisher,
-                first,
-                key,
-            });
+            return Err(EndedRun { lent, parts, last });
         }
-        let Some(host) = hosts.next() else {
-            return Err(EndedRun {
-                run_screen,
-                handover,
-                last,
-                hosts,
-                links,
-                publisher,
-                first,
-                key,
-            });
+        let Some(host) = parts.hosts.next() else {
+            return Err(EndedRun { lent, parts, last });
         };
         let HostEnds {
             reader,
@@ -337,17 +319,12 @@ impl<'a, L: Link, H: Hosts<L>, P: Puts, W: Alarm + Drop, T: Drop> IdleRun<'a, L,
             has_called,
         } = host;
         Ok(MetRun {
-            run_screen,
-            handover,
+            lent,
+            parts,
             last,
             has_called,
             reader,
             writer: SealedEnd::new(writer),
-            hosts,
-            links,
-            publisher,
-            first,
-            key,
         })
     }
 }
@@ -357,12 +334,13 @@ impl<'a, L: Link, H: Hosts<L>, P: Puts, W: Alarm + Drop, T: Drop> MetRun<'a, L, 
     /// run was before, and that the end to be read is as it came.
     pub fn so_far(&self)
         ensures { ∥ (H.came self.now.has_called self.now.reader
-            × HasRun self.now.run_screen.now.width self.now.run_screen.now.height
-            self.now.run_screen.now.password (IsComing L.state H.came) self.now.last
-            (came_over self.now.first.now.has_called.value
-            (L.state self.now.first.now.reader.value))
-            (map L.state self.now.links.items) (P.updates self.now.first.now.publisher.value)
-            (P.updates self.now.publisher)) ∥₁ }
+            × HasRun self.now.lent.run_screen.now.width self.now.lent.run_screen.now.height
+            self.now.lent.run_screen.now.password (IsComing L.state H.came) self.now.last
+            (came_over self.now.lent.first.now.has_called.value
+            (L.state self.now.lent.first.now.reader.value))
+            (map L.state self.now.parts.links.items)
+            (P.updates self.now.lent.first.now.publisher.value)
+            (P.updates self.now.parts.publisher)) ∥₁ }
     {}
 
     /// Joins the host within the room, and then puts the switch to it. It answers the run whose host is joined, with
@@ -373,58 +351,52 @@ impl<'a, L: Link, H: Hosts<L>, P: Puts, W: Alarm + Drop, T: Drop> MetRun<'a, L, 
         by: &F,
     ) -> Result<(JoinedRun<'a, L, H, P, W, T>, SealedEnd<L>), IdleRun<'a, L, H, P, W, T>>
         ensures met { IfOk result (λ joined.
-            IsMet self.entry.run_screen.now.width self.entry.run_screen.now.height
-            self.entry.run_screen.now.password (L.state self.entry.reader) (L.state joined.0.reader)
-            (P.updates self.entry.publisher) (P.updates joined.0.publisher)) }
+            IsMet self.entry.lent.run_screen.now.width self.entry.lent.run_screen.now.height
+            self.entry.lent.run_screen.now.password (L.state self.entry.reader)
+            (L.state joined.0.reader) (P.updates self.entry.parts.publisher)
+            (P.updates joined.0.parts.publisher)) }
         ensures begins { IfOk result (λ joined.
             Decodes joined.0.screen.decoder joined.0.screen.painter opening
-            (host_message self.entry.run_screen.now.width self.entry.run_screen.now.height)) }
+            (host_message self.entry.lent.run_screen.now.width
+            self.entry.lent.run_screen.now.height)) }
         ensures called { IfOk result (λ joined. joined.0.has_called ≡ self.entry.has_called) }
-        ensures joined { IfOk result (λ joined. (joined.0.links.items ≡ self.entry.links.items)
-            × (joined.0.first ≡ self.entry.first) × (joined.0.run_screen ≡ self.entry.run_screen)) }
+        ensures joined { IfOk result (λ joined.
+            (joined.0.parts.links.items ≡ self.entry.parts.links.items)
+            × (joined.0.lent ≡ self.entry.lent)) }
         ensures missed { IfErr result (λ run. (fault : Fault)
             × (run.last ≡ record { answer = Err fault; has_called = self.entry.has_called })
-            × IsMissed self.entry.run_screen.now.width self.entry.run_screen.now.height
-            self.entry.run_screen.now.password (length (P.updates self.entry.publisher)) fault
-            (L.state self.entry.reader)) }
-        ensures unread { IfErr result (λ run. (run.links.items ≡ self.entry.links.items)
-            × (P.updates run.publisher ≡ P.updates self.entry.publisher)
-            × (run.first ≡ self.entry.first) × (run.run_screen ≡ self.entry.run_screen)) }
+            × IsMissed self.entry.lent.run_screen.now.width self.entry.lent.run_screen.now.height
+            self.entry.lent.run_screen.now.password
+            (length (P.updates self.entry.parts.publisher)) fault (L.state self.entry.reader)) }
+        ensures unread { IfErr result (λ run.
+            (run.parts.links.items ≡ self.entry.parts.links.items)
+            × (P.updates run.parts.publisher ≡ P.updates self.entry.parts.publisher)
+            × (run.lent ≡ self.entry.lent)) }
     {
         let MetRun {
-            run_screen,
-            handover,
+            lent,
+            mut parts,
             last: _,
             has_called,
             mut reader,
             writer,
-            mut hosts,
-            mut links,
-            mut publisher,
-            first,
-            key,
         } = self;
         let met = meet(
             by,
-            run_screen,
-            &mut hosts,
+            lent.run_screen,
+            &mut parts.hosts,
             &mut reader,
-            &mut links,
-            &mut publisher,
+            &mut parts.links,
+            &mut parts.publisher,
         );
         match met {
             Ok(screen) => {
                 let joined = JoinedRun {
-                    run_screen,
-                    handover,
+                    lent,
+                    parts,
                     has_called,
                     reader,
                     screen,
-                    hosts,
-                    links,
-                    publisher,
-                    first,
-                    key,
                 };
                 Ok((joined, writer))
             }
@@ -435,17 +407,8 @@ impl<'a, L: Link, H: Hosts<L>, P: Puts, W: Alarm + Drop, T: Drop> MetRun<'a, L, 
                     answer: Err(fault),
                     has_called,
                 };
-                hosts.left(&mut reader, Err(why));
-                Err(IdleRun {
-                    run_screen,
-                    handover,
-                    last,
-                    hosts,
-                    links,
-                    publisher,
-                    first,
-                    key,
-                })
+                parts.hosts.left(&mut reader, Err(why));
+                Err(IdleRun { lent, parts, last })
             }
         }
     }
@@ -454,25 +417,27 @@ impl<'a, L: Link, H: Hosts<L>, P: Puts, W: Alarm + Drop, T: Drop> MetRun<'a, L, 
 impl<'a, L: Link, H: Hosts<L>, P: Puts, W: Alarm + Drop, T: Drop> EndedRun<'a, L, H, P, W, T> {
     /// Where the thread that tells the hosts is told that no other comes.
     pub(crate) fn handover(&self) -> &'a Handover<L, W> {
-        self.handover
+        self.lent.handover
     }
 
     /// What the run had, as it ended: how its last host has ended, where further hosts come from, the links of the
     /// hosts that were read, and the publisher.
     pub fn into_parts(self, _key: T) -> (Ending, H, Vec<L>, P)
-        ensures { (result.0 ≡ self.entry.last) × (result.1 ≡ self.entry.hosts)
-            × (result.2 ≡ self.entry.links) × (result.3 ≡ self.entry.publisher) }
+        ensures { (result.0 ≡ self.entry.last) × (result.1 ≡ self.entry.parts.hosts)
+            × (result.2 ≡ self.entry.parts.links) × (result.3 ≡ self.entry.parts.publisher) }
     {
-        let EndedRun {
+        let EndedRun { lent, parts, last } = self;
+        let Lent {
             run_screen: _,
             handover: _,
-            last,
+            first: _,
+            key: _,
+        } = lent;
+        let RunParts {
             hosts,
             links,
             publisher,
-            first: _,
-            key: _,
-        } = self;
+        } = parts;
         (last, hosts, links, publisher)
     }
 }

@@ -13,7 +13,7 @@ use Rattle.host_turns.proofs.stages.JoinedRun.read.Goals as goal
 pub read-answer-requires-clause-begins : goal.read-answer-requires-clause-begins
 read-answer-requires-clause-begins g c =
     let screen = c.args.self.screen in
-    let run = c.args.self.run_screen.now in
+    let run = c.args.self.lent.run_screen.now in
     let size = c.args.self.sized in
     at_size (λ v k. Decodes screen.decoder screen.painter opening (host_message v k)) run.width run.height screen.decoder.width screen.decoder.height (sym size.0) (sym size.1) c.requires
 
@@ -21,14 +21,14 @@ pub returns-clause-read : goal.returns-clause-read
 returns-clause-read g c =
     let state = g.L.Link.state in
     let screen = c.args.self.screen in
-    let run = c.args.self.run_screen.now in
+    let run = c.args.self.lent.run_screen.now in
     let size = c.args.self.sized in
     let left : LinkState = state c.left.new.reader in
-    let pushed : c.push.new.self.items ≡ c.args.self.links.items ++ c.left.new.reader ∷ [] = search rules in
-    let over = λ (link : LinkState). IsRead screen.decoder.width screen.decoder.height c.read-answer.result (state c.args.self.reader) link (g.P.Puts.updates c.args.self.publisher) (g.P.Puts.updates c.read-answer.new.publisher) in (
+    let pushed : c.push.new.self.items ≡ c.args.self.parts.links.items ++ c.left.new.reader ∷ [] = search rules in
+    let over = λ (link : LinkState). IsRead screen.decoder.width screen.decoder.height c.read-answer.result (state c.args.self.reader) link (g.P.Puts.updates c.args.self.parts.publisher) (g.P.Puts.updates c.read-answer.new.publisher) in (
       left,
-      ap (map state) pushed ∙ map-append state c.args.self.links.items (c.left.new.reader ∷ []),
-      at_size (λ v k. IsRead v k c.read-answer.result (state c.args.self.reader) left (g.P.Puts.updates c.args.self.publisher) (g.P.Puts.updates c.read-answer.new.publisher)) screen.decoder.width screen.decoder.height run.width run.height size.0 size.1
+      ap (map state) pushed ∙ map-append state c.args.self.parts.links.items (c.left.new.reader ∷ []),
+      at_size (λ v k. IsRead v k c.read-answer.result (state c.args.self.reader) left (g.P.Puts.updates c.args.self.parts.publisher) (g.P.Puts.updates c.read-answer.new.publisher)) screen.decoder.width screen.decoder.height run.width run.height size.0 size.1
           (subst over (sym c.left.ensures.link) (record { out = c.read-answer.ensures.read; given = c.read-answer.ensures.given })),
     )
 
@@ -36,15 +36,15 @@ pub invariant_of-result-clause-lawful : goal.invariant_of-result-clause-lawful
 invariant_of-result-clause-lawful g c =
     let state = g.L.Link.state in
     let screen = c.args.self.screen in
-    let run = c.args.self.run_screen.now in
+    let run = c.args.self.lent.run_screen.now in
     let size = c.args.self.sized in
-    let first = c.args.self.first.now in
+    let first = c.args.self.lent.first.now in
     let left : LinkState = state c.left.new.reader in
-    let pushed : c.push.new.self.items ≡ c.args.self.links.items ++ c.left.new.reader ∷ [] = search rules in
-    let handed = ap (map state) pushed ∙ map-append state c.args.self.links.items (c.left.new.reader ∷ []) in
-    let over = λ (link : LinkState). IsRead screen.decoder.width screen.decoder.height c.read-answer.result (state c.args.self.reader) link (g.P.Puts.updates c.args.self.publisher) (g.P.Puts.updates c.read-answer.new.publisher) in
-    let is = at_size (λ v k. IsRead v k c.read-answer.result (state c.args.self.reader) left (g.P.Puts.updates c.args.self.publisher) (g.P.Puts.updates c.read-answer.new.publisher)) screen.decoder.width screen.decoder.height run.width run.height size.0 size.1
+    let pushed : c.push.new.self.items ≡ c.args.self.parts.links.items ++ c.left.new.reader ∷ [] = search rules in
+    let handed = ap (map state) pushed ∙ map-append state c.args.self.parts.links.items (c.left.new.reader ∷ []) in
+    let over = λ (link : LinkState). IsRead screen.decoder.width screen.decoder.height c.read-answer.result (state c.args.self.reader) link (g.P.Puts.updates c.args.self.parts.publisher) (g.P.Puts.updates c.read-answer.new.publisher) in
+    let is = at_size (λ v k. IsRead v k c.read-answer.result (state c.args.self.reader) left (g.P.Puts.updates c.args.self.parts.publisher) (g.P.Puts.updates c.read-answer.new.publisher)) screen.decoder.width screen.decoder.height run.width run.height size.0 size.1
     (subst over (sym c.left.ensures.link) (record { out = c.read-answer.ensures.read; given = c.read-answer.ensures.given })) in
     ∥∥₁_map c.args.self.lawful (λ k.
-    rw handed (stayed run.width run.height run.password (IsComing state g.H.Hosts.came) c.read-answer.result (came_over first.has_called.value (state first.reader.value)) (came_over c.args.self.has_called (state c.args.self.reader)) left (map state c.args.self.links.items) (g.P.Puts.updates first.publisher.value) (g.P.Puts.updates c.args.self.publisher)
+    rw handed (stayed run.width run.height run.password (IsComing state g.H.Hosts.came) c.read-answer.result (came_over first.has_called.value (state first.reader.value)) (came_over c.args.self.has_called (state c.args.self.reader)) left (map state c.args.self.parts.links.items) (g.P.Puts.updates first.publisher.value) (g.P.Puts.updates c.args.self.parts.publisher)
     (g.P.Puts.updates c.read-answer.new.publisher) k is))
