@@ -50,7 +50,7 @@ no_course = record {
   room_width = 0;
   room_height = 0;
   password = None;
-  form = record { runs = OfRows; zrle = false };
+  form = record { runs = OfRows; zrle = false; copies = false };
   roles = [];
   last_end = record { answer = Ok tt; has_called = false };
   came = came_over false unused;

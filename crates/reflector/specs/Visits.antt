@@ -31,7 +31,7 @@ name_of (b ∷ bs) = b ∷ bs
 -- A screen of this size and name, whose viewers are answered in this form. They are told of the host's sizes, the first
 -- of which is this one.
 abbrev pub setup_of : ℕ → ℕ → List ℕ → AnswerForm → Size → Setup
-setup_of w h name form host = record { w = w; h = h; name = name; room = 0; runs = form.runs; host = Some host; zrle = form.zrle }
+setup_of w h name form host = record { w = w; h = h; name = name; room = 0; form = form; host = Some host }
 
 -- The size and the name are those of a run's screen, the form is that in which all its viewers are answered, and the
 -- first size of which they are told is that of the host that was joined.

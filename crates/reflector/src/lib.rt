@@ -19,9 +19,11 @@ mod place;
 mod ran;
 mod reader;
 mod run;
+mod running;
 mod session_maker;
 mod stages;
 mod teller;
+mod threads;
 mod writer;
 
 pub use given::{RunHosts, RunPlaces, RunShared};
@@ -34,8 +36,9 @@ pub use law::{
 };
 pub use place::{OfPlace, Place, PlaceHandle};
 pub use ran::Ran;
-pub use run::{Running, run_all};
+pub use run::run_all;
 pub use run_traits::LinkTrail;
+pub use running::Running;
 pub use session_maker::SessionMaker;
 pub use stages::{BusyPlace, FreePlace, LeftPlace, MetPlace, PlaceBeginning, PlaceKey};
 pub use teller::{BusyTeller, FreeTeller, TellerBeginning, TellerKey};

@@ -31,7 +31,7 @@ use viewer_server::run_viewer;
 use viewer_session::AnswerForm;
 
 /// The stack of a place's thread, in bytes.
-const STACK: usize = 262_144;
+const STACK: usize = 1_048_576;
 
 /// How long a place rests where the relay is full, in milliseconds.
 const REST_MILLIS: u64 = 1;
@@ -118,10 +118,11 @@ where
     Z: Rest,
     R: Wait,
     ensures { HasVisits D.lets_in D.sees_off (λ source_old source_new sent_old sent_new why left.
-        IsReceived S.looks S.cuts S.may_end (F.was_set place.entry.stop.now) K.may_refuse S.known
-        (setup_of place.entry.maker.now.width place.entry.maker.now.height
-        place.entry.maker.now.name.items place.entry.maker.now.form place.entry.maker.now.host)
-        place.entry.maker.now.role source_old source_new sent_old sent_new why left)
+        IsReceived S.looks S.cuts S.may_end (F.was_set place.entry.lent.stop.now)
+        K.may_refuse S.known (setup_of place.entry.lent.maker.now.width
+        place.entry.lent.maker.now.height place.entry.lent.maker.now.name.items
+        place.entry.lent.maker.now.form place.entry.lent.maker.now.host)
+        place.entry.lent.maker.now.role source_old source_new sent_old sent_new why left)
         (at place.entry.door place.entry.source (K.sent place.entry.sink))
         (at result.door result.source (K.sent result.sink)) }
 {

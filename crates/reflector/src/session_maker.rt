@@ -70,9 +70,8 @@ impl SessionMaker {
             (session.width ≡ self.now.width) × (session.height ≡ self.now.height)) }
         ensures uncut { IfOk result (λ session. session.asked.last ≡ None) }
         ensures stands { IfOk result (λ session. (s : Setup) → s.w ≡ self.now.width
-            → s.h ≡ self.now.height → s.name ≡ self.now.name.items → s.runs ≡ self.now.form.runs
-            → s.host ≡ Some self.now.host → s.zrle ≡ self.now.form.zrle
-            → Stands s session (new_viewer self.now.role true)) }
+            → s.h ≡ self.now.height → s.name ≡ self.now.name.items → s.form ≡ self.now.form
+            → s.host ≡ Some self.now.host → Stands s session (new_viewer self.now.role true)) }
         ensures err { IfErr result (λ fault. fault ≡ Memory) }
     {
         Session::open(

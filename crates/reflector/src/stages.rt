@@ -59,98 +59,105 @@ pub struct PlaceKey {
     only_here: (),
 }
 
+/// What a place is lent: what makes the sessions of its viewers, the flag that ends it, and how it all began. It stays
+/// the same from stage to stage. A `T` is the key that takes a place apart.
+struct Lent<'a, D, S, K, F: StopFlag, T: Drop> {
+    maker: &'a SessionMaker,
+    stop: &'a F,
+    // No step can put another beginning in its place.
+    first: &'a PlaceBeginning<D, S, K>,
+    key: PhantomData<T>,
+}
+
 /// A place without a viewer: its door, the source of its screens and the sink of its viewers' input.
 ///
 /// Only a place's own steps use these while the place has them. No step takes a handle, so each is proved to end where
 /// the calls of the door, the source and the sink end, and `lawful` holds at its end. A `T` is the key that takes a
 /// place apart: whoever is given a place can't make one.
 pub struct FreePlace<'a, D: Door, S: ScreenSource, K: InputSink, F: StopFlag, T: Drop> {
-    maker: &'a SessionMaker,
-    stop: &'a F,
+    lent: Lent<'a, D, S, K, F, T>,
     door: D,
     source: S,
     sink: K,
-    // How it all began. It is lent, so no step can put another beginning in its place.
-    first: &'a PlaceBeginning<D, S, K>,
-    key: PhantomData<T>,
-    ghost screen: { (s : S) → (S.width s ≡ maker.now.width) × (S.height s ≡ maker.now.height) },
+    ghost screen: { (s : S)
+        → (S.width s ≡ lent.maker.now.width) × (S.height s ≡ lent.maker.now.height) },
     ghost lawful: { ∥ IsVisiting D.lets_in D.sees_off
         (λ source_old source_new sent_old sent_new why left.
-        IsReceived S.looks S.cuts S.may_end (F.was_set stop.now) K.may_refuse S.known
-        (setup_of maker.now.width maker.now.height maker.now.name.items maker.now.form
-        maker.now.host) maker.now.role source_old source_new sent_old sent_new why left)
-        (at first.now.door.value first.now.source.value (K.sent first.now.sink.value))
-        (at door source (K.sent sink)) ∥₁ },
+        IsReceived S.looks S.cuts S.may_end (F.was_set lent.stop.now) K.may_refuse S.known
+        (setup_of lent.maker.now.width lent.maker.now.height lent.maker.now.name.items
+        lent.maker.now.form lent.maker.now.host) lent.maker.now.role
+        source_old source_new sent_old sent_new why left)
+        (at lent.first.now.door.value lent.first.now.source.value
+        (K.sent lent.first.now.sink.value)) (at door source (K.sent sink)) ∥₁ },
 }
 
 /// A place whose door let a viewer in, with the session that was made for it. Nothing was done for the viewer yet.
 pub struct MetPlace<'a, D: Door, S: ScreenSource, K: InputSink, F: StopFlag, T: Drop> {
-    maker: &'a SessionMaker,
-    stop: &'a F,
+    lent: Lent<'a, D, S, K, F, T>,
     door: D,
     source: S,
     sink: K,
     link: D::Viewer,
     session: Session,
-    first: &'a PlaceBeginning<D, S, K>,
-    key: PhantomData<T>,
-    ghost screen: { (s : S) → (S.width s ≡ maker.now.width) × (S.height s ≡ maker.now.height) },
+    ghost screen: { (s : S)
+        → (S.width s ≡ lent.maker.now.width) × (S.height s ≡ lent.maker.now.height) },
     ghost fresh: { D.Viewer.state link ≡ unused },
-    ghost size: { (session.width ≡ maker.now.width) × (session.height ≡ maker.now.height) },
+    ghost size: { (session.width ≡ lent.maker.now.width)
+        × (session.height ≡ lent.maker.now.height) },
     ghost uncut: { session.asked.last ≡ None },
-    ghost stands: { ∥ Stands (setup_of maker.now.width maker.now.height maker.now.name.items
-        maker.now.form maker.now.host) session (new_viewer maker.now.role true) ∥₁ },
+    ghost stands: { ∥ Stands (setup_of lent.maker.now.width lent.maker.now.height
+        lent.maker.now.name.items lent.maker.now.form lent.maker.now.host)
+        session (new_viewer lent.maker.now.role true) ∥₁ },
     ghost lawful: { ∥ ((before : D)
         × IsVisiting D.lets_in D.sees_off (λ source_old source_new sent_old sent_new why left.
-        IsReceived S.looks S.cuts S.may_end (F.was_set stop.now) K.may_refuse S.known
-        (setup_of maker.now.width maker.now.height maker.now.name.items maker.now.form
-        maker.now.host) maker.now.role source_old source_new sent_old sent_new why left)
-        (at first.now.door.value first.now.source.value (K.sent first.now.sink.value))
-        (at before source (K.sent sink))
+        IsReceived S.looks S.cuts S.may_end (F.was_set lent.stop.now) K.may_refuse S.known
+        (setup_of lent.maker.now.width lent.maker.now.height lent.maker.now.name.items
+        lent.maker.now.form lent.maker.now.host) lent.maker.now.role
+        source_old source_new sent_old sent_new why left)
+        (at lent.first.now.door.value lent.first.now.source.value
+        (K.sent lent.first.now.sink.value)) (at before source (K.sent sink))
         × D.lets_in before true door) ∥₁ },
 }
 
 /// A place whose viewer is there. The viewer's visit has all the rest: its link, the source and the sink.
 pub struct BusyPlace<'a, 'b, D: Door, S: ScreenSource, K: InputSink, F: StopFlag, T: Drop> {
-    maker: &'a SessionMaker,
-    stop: &'a F,
+    lent: Lent<'a, D, S, K, F, T>,
     door: D,
     // How the visit began.
     began: &'b Beginning<D::Viewer, S, K>,
     visit_key: PlaceKey,
-    first: &'a PlaceBeginning<D, S, K>,
-    key: PhantomData<T>,
-    ghost screen: { (s : S) → (S.width s ≡ maker.now.width) × (S.height s ≡ maker.now.height) },
+    ghost screen: { (s : S)
+        → (S.width s ≡ lent.maker.now.width) × (S.height s ≡ lent.maker.now.height) },
     ghost fresh: { D.Viewer.state began.now.link.value ≡ unused },
-    ghost stands: { ∥ Stands (setup_of maker.now.width maker.now.height
-        maker.now.name.items maker.now.form maker.now.host)
-        began.now.session.value (new_viewer maker.now.role true) ∥₁ },
+    ghost stands: { ∥ Stands (setup_of lent.maker.now.width lent.maker.now.height
+        lent.maker.now.name.items lent.maker.now.form lent.maker.now.host)
+        began.now.session.value (new_viewer lent.maker.now.role true) ∥₁ },
     ghost lawful: { ∥ ((before : D)
         × IsVisiting D.lets_in D.sees_off (λ source_old source_new sent_old sent_new why left.
-        IsReceived S.looks S.cuts S.may_end (F.was_set stop.now) K.may_refuse S.known
-        (setup_of maker.now.width maker.now.height maker.now.name.items maker.now.form
-        maker.now.host) maker.now.role source_old source_new sent_old sent_new why left)
-        (at first.now.door.value first.now.source.value (K.sent first.now.sink.value))
+        IsReceived S.looks S.cuts S.may_end (F.was_set lent.stop.now) K.may_refuse S.known
+        (setup_of lent.maker.now.width lent.maker.now.height lent.maker.now.name.items
+        lent.maker.now.form lent.maker.now.host) lent.maker.now.role
+        source_old source_new sent_old sent_new why left)
+        (at lent.first.now.door.value lent.first.now.source.value
+        (K.sent lent.first.now.sink.value))
         (at before began.now.source.value (K.sent began.now.sink.value))
         × D.lets_in before true door) ∥₁ },
 }
 
 /// A place that is left: no viewer comes any more.
 pub struct LeftPlace<'a, D: Door, S: ScreenSource, K: InputSink, F: StopFlag, T: Drop> {
-    maker: &'a SessionMaker,
-    stop: &'a F,
+    lent: Lent<'a, D, S, K, F, T>,
     door: D,
     source: S,
     sink: K,
-    first: &'a PlaceBeginning<D, S, K>,
-    key: PhantomData<T>,
     ghost lawful: { ∥ HasVisits D.lets_in D.sees_off
         (λ source_old source_new sent_old sent_new why left.
-        IsReceived S.looks S.cuts S.may_end (F.was_set stop.now) K.may_refuse S.known
-        (setup_of maker.now.width maker.now.height maker.now.name.items maker.now.form
-        maker.now.host) maker.now.role source_old source_new sent_old sent_new why left)
-        (at first.now.door.value first.now.source.value (K.sent first.now.sink.value))
-        (at door source (K.sent sink)) ∥₁ },
+        IsReceived S.looks S.cuts S.may_end (F.was_set lent.stop.now) K.may_refuse S.known
+        (setup_of lent.maker.now.width lent.maker.now.height lent.maker.now.name.items
+        lent.maker.now.form lent.maker.now.host) lent.maker.now.role
+        source_old source_new sent_old sent_new why left)
+        (at lent.first.now.door.value lent.first.now.source.value
+        (K.sent lent.first.now.sink.value)) (at door source (K.sent sink)) ∥₁ },
 }
 
 impl<'a, D: Door, S: ScreenSource, K: InputSink, F: StopFlag, T: Drop> FreePlace<
@@ -175,17 +182,20 @@ impl<'a, D: Door, S: ScreenSource, K: InputSink, F: StopFlag, T: Drop> FreePlace
         requires screen { (s : S)
             → (S.width s ≡ maker.now.width) × (S.height s ≡ maker.now.height) }
         ensures parts { (result.door ≡ door) × (result.source ≡ source) × (result.sink ≡ sink) }
-        ensures lent { (result.first ≡ first.entry) × (result.maker ≡ maker.entry)
-            × (result.stop ≡ stop.entry) }
+        ensures lent { (result.lent.first ≡ first.entry) × (result.lent.maker ≡ maker.entry)
+            × (result.lent.stop ≡ stop.entry) }
     {
-        FreePlace {
+        let lent = Lent {
             maker,
             stop,
+            first,
+            key: PhantomData,
+        };
+        FreePlace {
+            lent,
             door,
             source,
             sink,
-            first,
-            key: PhantomData,
         }
     }
 
@@ -193,20 +203,21 @@ impl<'a, D: Door, S: ScreenSource, K: InputSink, F: StopFlag, T: Drop> FreePlace
     pub fn so_far(&self)
         ensures { ∥ IsVisiting D.lets_in D.sees_off
             (λ source_old source_new sent_old sent_new why left.
-            IsReceived S.looks S.cuts S.may_end (F.was_set self.now.stop.now) K.may_refuse S.known
-            (setup_of self.now.maker.now.width self.now.maker.now.height
-            self.now.maker.now.name.items self.now.maker.now.form self.now.maker.now.host)
-            self.now.maker.now.role source_old source_new sent_old sent_new why left)
-            (at self.now.first.now.door.value self.now.first.now.source.value
-            (K.sent self.now.first.now.sink.value))
+            IsReceived S.looks S.cuts S.may_end (F.was_set self.now.lent.stop.now)
+            K.may_refuse S.known (setup_of self.now.lent.maker.now.width
+            self.now.lent.maker.now.height self.now.lent.maker.now.name.items
+            self.now.lent.maker.now.form self.now.lent.maker.now.host)
+            self.now.lent.maker.now.role source_old source_new sent_old sent_new why left)
+            (at self.now.lent.first.now.door.value self.now.lent.first.now.source.value
+            (K.sent self.now.lent.first.now.sink.value))
             (at self.now.door self.now.source (K.sent self.now.sink)) ∥₁ }
     {}
 
     /// The flag that ends the place.
     pub fn stop(&self) -> &'a F
-        ensures { result ≡ self.now.stop }
+        ensures { result ≡ self.now.lent.stop }
     {
-        self.stop
+        self.lent.stop
     }
 
     /// Asks the door for the next viewer. It answers the place that is left, where no more come. Where there is no
@@ -216,63 +227,50 @@ impl<'a, D: Door, S: ScreenSource, K: InputSink, F: StopFlag, T: Drop> FreePlace
     ) -> Result<Result<MetPlace<'a, D, S, K, F, T>, Self>, LeftPlace<'a, D, S, K, F, T>>
         ensures met { IfOk result (λ met. IfOk met (λ place.
             D.lets_in self.entry.door true place.door × (place.source ≡ self.entry.source)
-            × (place.sink ≡ self.entry.sink) × (place.first ≡ self.entry.first)
-            × (place.maker ≡ self.entry.maker) × (place.stop ≡ self.entry.stop))) }
+            × (place.sink ≡ self.entry.sink) × (place.lent ≡ self.entry.lent))) }
         ensures session { IfOk result (λ met. IfOk met (λ place.
-            Stands (setup_of self.entry.maker.now.width self.entry.maker.now.height
-            self.entry.maker.now.name.items self.entry.maker.now.form self.entry.maker.now.host)
-            place.session (new_viewer self.entry.maker.now.role true))) }
+            Stands (setup_of self.entry.lent.maker.now.width self.entry.lent.maker.now.height
+            self.entry.lent.maker.now.name.items self.entry.lent.maker.now.form
+            self.entry.lent.maker.now.host)
+            place.session (new_viewer self.entry.lent.maker.now.role true))) }
         ensures let_go { IfOk result (λ met. IfErr met (λ place.
             (door : D) × D.lets_in self.entry.door true door
             × D.sees_off door unused (Err Memory) place.door × (place.source ≡ self.entry.source)
-            × (place.sink ≡ self.entry.sink) × (place.first ≡ self.entry.first)
-            × (place.maker ≡ self.entry.maker) × (place.stop ≡ self.entry.stop))) }
+            × (place.sink ≡ self.entry.sink) × (place.lent ≡ self.entry.lent))) }
         ensures left { IfErr result (λ place.
             D.lets_in self.entry.door false place.door × (place.source ≡ self.entry.source)
-            × (place.sink ≡ self.entry.sink) × (place.first ≡ self.entry.first)) }
+            × (place.sink ≡ self.entry.sink) × (place.lent ≡ self.entry.lent)) }
     {
         let FreePlace {
-            maker,
-            stop,
+            lent,
             mut door,
             source,
             sink,
-            first,
-            key,
         } = self;
         let Some(link) = door.next() else {
             return Err(LeftPlace {
-                maker,
-                stop,
+                lent,
                 door,
                 source,
                 sink,
-                first,
-                key,
             });
         };
-        match maker.open() {
+        match lent.maker.open() {
             Ok(session) => Ok(Ok(MetPlace {
-                maker,
-                stop,
+                lent,
                 door,
                 source,
                 sink,
                 link,
                 session,
-                first,
-                key,
             })),
             Err(fault) => {
                 door.left(LeftLink::new(link), 0, Err(fault));
                 Ok(Err(FreePlace {
-                    maker,
-                    stop,
+                    lent,
                     door,
                     source,
                     sink,
-                    first,
-                    key,
                 }))
             }
         }
@@ -281,25 +279,19 @@ impl<'a, D: Door, S: ScreenSource, K: InputSink, F: StopFlag, T: Drop> FreePlace
     /// Asks for no further viewer.
     pub fn leave(self) -> LeftPlace<'a, D, S, K, F, T>
         ensures { (result.door ≡ self.entry.door) × (result.source ≡ self.entry.source)
-            × (result.sink ≡ self.entry.sink) × (result.first ≡ self.entry.first) }
+            × (result.sink ≡ self.entry.sink) × (result.lent ≡ self.entry.lent) }
     {
         let FreePlace {
-            maker,
-            stop,
+            lent,
             door,
             source,
             sink,
-            first,
-            key,
         } = self;
         LeftPlace {
-            maker,
-            stop,
+            lent,
             door,
             source,
             sink,
-            first,
-            key,
         }
     }
 }
@@ -324,33 +316,26 @@ impl<'a, D: Door, S: ScreenSource, K: InputSink, F: StopFlag, T: Drop> MetPlace<
         requires { (began.now.link.value ≡ self.link) × (began.now.source.value ≡ self.source)
             × (began.now.sink.value ≡ self.sink) × (began.now.session.value ≡ self.session) }
         ensures place { (result.0.door ≡ self.entry.door) × (result.0.began ≡ began.entry)
-            × (result.0.first ≡ self.entry.first) × (result.0.maker ≡ self.entry.maker)
-            × (result.0.stop ≡ self.entry.stop) }
+            × (result.0.lent ≡ self.entry.lent) }
         ensures visit { (result.1.link ≡ self.entry.link) × (result.1.source ≡ self.entry.source)
             × (result.1.sink ≡ self.entry.sink) × (result.1.session ≡ self.entry.session) }
         ensures begins { (result.1.inbox ≡ all_passed) × (result.1.is_served ≡ true)
             × (result.1.session.asked.last ≡ None) }
     {
         let MetPlace {
-            maker,
-            stop,
+            lent,
             door,
             source,
             sink,
             link,
             session,
-            first,
-            key,
         } = self;
         let visit = Visit::new(began, link, source, sink, session);
         let place = BusyPlace {
-            maker,
-            stop,
+            lent,
             door,
             began,
             visit_key: PlaceKey { only_here: () },
-            first,
-            key,
         };
         (place, visit)
     }
@@ -369,26 +354,28 @@ impl<'a, 'b, D: Door, S: ScreenSource, K: InputSink, F: StopFlag, T: Drop> BusyP
     /// this viewer's own, and that this viewer's session is of the place's role. Of this viewer's visit
     /// `viewer_server::Visit::so_far` speaks.
     pub fn so_far(&self)
-        ensures role { ∥ Stands (setup_of self.now.maker.now.width self.now.maker.now.height
-            self.now.maker.now.name.items self.now.maker.now.form self.now.maker.now.host)
-            self.now.began.now.session.value (new_viewer self.now.maker.now.role true) ∥₁ }
+        ensures role { ∥ Stands (setup_of self.now.lent.maker.now.width
+            self.now.lent.maker.now.height self.now.lent.maker.now.name.items
+            self.now.lent.maker.now.form self.now.lent.maker.now.host)
+            self.now.began.now.session.value (new_viewer self.now.lent.maker.now.role true) ∥₁ }
         ensures visits { ∥ ((before : D)
             × IsVisiting D.lets_in D.sees_off (λ source_old source_new sent_old sent_new why left.
-            IsReceived S.looks S.cuts S.may_end (F.was_set self.now.stop.now) K.may_refuse S.known
-            (setup_of self.now.maker.now.width self.now.maker.now.height
-            self.now.maker.now.name.items self.now.maker.now.form self.now.maker.now.host)
-            self.now.maker.now.role source_old source_new sent_old sent_new why left)
-            (at self.now.first.now.door.value self.now.first.now.source.value
-            (K.sent self.now.first.now.sink.value))
+            IsReceived S.looks S.cuts S.may_end (F.was_set self.now.lent.stop.now)
+            K.may_refuse S.known (setup_of self.now.lent.maker.now.width
+            self.now.lent.maker.now.height self.now.lent.maker.now.name.items
+            self.now.lent.maker.now.form self.now.lent.maker.now.host)
+            self.now.lent.maker.now.role source_old source_new sent_old sent_new why left)
+            (at self.now.lent.first.now.door.value self.now.lent.first.now.source.value
+            (K.sent self.now.lent.first.now.sink.value))
             (at before self.now.began.now.source.value (K.sent self.now.began.now.sink.value))
             × D.lets_in before true self.now.door) ∥₁ }
     {}
 
     /// The flag that ends the place.
     pub fn stop(&self) -> &'a F
-        ensures { result ≡ self.now.stop }
+        ensures { result ≡ self.now.lent.stop }
     {
-        self.stop
+        self.lent.stop
     }
 
     /// What notes how far the viewer is.
@@ -404,37 +391,30 @@ impl<'a, 'b, D: Door, S: ScreenSource, K: InputSink, F: StopFlag, T: Drop> BusyP
         visit: Visit<'b, D::Viewer, S, K, PlaceKey>,
         why: Result<(), Fault>,
     ) -> FreePlace<'a, D, S, K, F, T>
-        requires { IsReceived S.looks S.cuts S.may_end (F.was_set self.stop.now)
-            K.may_refuse S.known (setup_of self.maker.now.width self.maker.now.height
-            self.maker.now.name.items self.maker.now.form self.maker.now.host)
-            self.maker.now.role self.began.now.source.value visit.source
+        requires { IsReceived S.looks S.cuts S.may_end (F.was_set self.lent.stop.now)
+            K.may_refuse S.known (setup_of self.lent.maker.now.width self.lent.maker.now.height
+            self.lent.maker.now.name.items self.lent.maker.now.form self.lent.maker.now.host)
+            self.lent.maker.now.role self.began.now.source.value visit.source
             (K.sent self.began.now.sink.value) (K.sent visit.sink) why (D.Viewer.state visit.link) }
         ensures went { D.sees_off self.entry.door
             (D.Viewer.state visit.entry.link) why result.door }
         ensures parts { (result.source ≡ visit.entry.source) × (result.sink ≡ visit.entry.sink) }
-        ensures lent { (result.first ≡ self.entry.first) × (result.maker ≡ self.entry.maker)
-            × (result.stop ≡ self.entry.stop) }
+        ensures lent { result.lent ≡ self.entry.lent }
     {
         let BusyPlace {
-            maker,
-            stop,
+            lent,
             mut door,
             began: _,
             visit_key,
-            first,
-            key,
         } = self;
         let answers = visit.answers();
         let (link, source, sink, _) = visit.into_parts(visit_key);
         door.left(LeftLink::new(link), answers, why);
         FreePlace {
-            maker,
-            stop,
+            lent,
             door,
             source,
             sink,
-            first,
-            key,
         }
     }
 }
@@ -453,14 +433,17 @@ impl<'a, D: Door, S: ScreenSource, K: InputSink, F: StopFlag, T: Drop> LeftPlace
             × (result.2 ≡ self.entry.sink) }
     {
         let LeftPlace {
-            maker: _,
-            stop: _,
+            lent,
             door,
             source,
             sink,
+        } = self;
+        let Lent {
+            maker: _,
+            stop: _,
             first: _,
             key: _,
-        } = self;
+        } = lent;
         (door, source, sink)
     }
 }

@@ -26,8 +26,8 @@ use std::sync::{Arc, Wait};
 use std::thread;
 use std::thread::{Promise, PromisedHandle, Threads};
 
-/// What the thread that tells the hosts is given: the hosts that are handed over, the source of the looks, the taker of the
-/// viewers' input, the strokes by which that is judged, and where others read how much was dropped.
+/// What the thread that tells the hosts is given: the hosts that are handed over, the source of the looks, the taker of
+/// the viewers' input, the strokes by which that is judged, and where others read how much was dropped.
 #[derive(Drop)]
 struct HostsToTell<L: Link, W: Alarm + Drop, S, R: Wait + Drop> {
     handed: HandoverTaker<L, W>,

@@ -15,11 +15,11 @@ ghosts-shown g a = record {
     password = a.began.now.room.password;
     form = a.form;
     roles = map (λ door. door.0) a.began.now.doors.value.items;
-    last_end = a.left.last;
+    last_end = a.left.read.last;
     came = came_over a.began.now.has_called (g.L.Link.state a.began.now.link.value);
-    links = map g.L.Link.state a.left.links.items;
-    told = links_in g.L.Link.state a.left.told_links;
-    taken = taken_of a.left.taker;
-    updates = puts_of a.left.publisher.changes;
+    links = map g.L.Link.state a.left.read.links.items;
+    told = links_in g.L.Link.state a.left.told.told_links;
+    taken = taken_of a.left.told.taker;
+    updates = puts_of a.left.read.publisher.changes;
   };
 }

@@ -6,4 +6,4 @@ use Rattle.reflector.proofs.session_maker.SessionMaker.open.Goals as goal
 
 pub returns-clause-stands : goal.returns-clause-stands
 returns-clause-stands c =
-    subst (λ (name : List ℕ). IfOk c.open.result (λ (session : State). (s : Setup) → s.w ≡ c.args.self.now.width → s.h ≡ c.args.self.now.height → s.name ≡ name → s.runs ≡ c.args.self.now.form.runs → s.host ≡ Some c.args.self.now.host → s.zrle ≡ c.args.self.now.form.zrle → Stands s session (new_viewer c.args.self.now.role true))) c.as_slice.ensures.value c.open.ensures.stands
+    subst (λ (name : List ℕ). IfOk c.open.result (λ (session : State). (s : Setup) → s.w ≡ c.args.self.now.width → s.h ≡ c.args.self.now.height → s.name ≡ name → s.form ≡ c.args.self.now.form → s.host ≡ Some c.args.self.now.host → Stands s session (new_viewer c.args.self.now.role true))) c.as_slice.ensures.value c.open.ensures.stands

@@ -3,7 +3,7 @@ use Rattle.std.proofs.Common.{◌≡◌, ◌∙◌, ap, vec_len}
 use Rattle.input_relay.specs.Ends.{fresh, host_of, relay_of, strand_of, taken_of}
 use Rattle.reflector.proofs.Places.{all_of_senders, of_senders}
 use Rattle.reflector.proofs.Telling.{tells_hosts}
-use Rattle.reflector.proofs.run.run_over.Goals as goal
+use Rattle.reflector.proofs.threads.run_over.Goals as goal
 
 pub returns-in-Ok-clause-places : goal.returns-in-Ok-clause-places
 returns-in-Ok-clause-places g c =

@@ -1,4 +1,4 @@
-use Rattle.reflector.proofs.run.start_all.Goals as goal
+use Rattle.reflector.proofs.threads.start_all.Goals as goal
 
 -- All sources of the run's screen are as large as that, and so is the writer's.
 pub start_writer-requires-after_bounds : goal.start_writer-requires-after_bounds

@@ -2,7 +2,7 @@ use Rattle.reflector.proofs.Places.{first_left, grown, grown_by, pair_of}
 use Rattle.shared_screen.proofs.Every.{all_snoc}
 use Rattle.std.proofs.Common.{◌<◌, ◌∙◌, ap, arith, length, rules, sym}
 use Rattle.reflector.specs.Visits.{IsOfScreen}
-use Rattle.reflector.proofs.run.start_places.Goals as goal
+use Rattle.reflector.proofs.threads.start_places.Goals as goal
 
 -- The maker is of the screen that viewers are told.
 pub start_place-requires-after_bounds : goal.start_place-requires-after_bounds

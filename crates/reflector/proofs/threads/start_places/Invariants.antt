@@ -2,7 +2,7 @@ use Rattle.std.proofs.Common.{◌≡◌, ◌++◌, map, length}
 use Rattle.std.specs.List.{All}
 use Rattle.std.specs.Vec.Iter.{into_iter_items}
 use Rattle.reflector.specs.Visits.{IsOfScreen}
-use Rattle.reflector.proofs.run.start_places.Given as goal
+use Rattle.reflector.proofs.threads.start_places.Given as goal
 
 -- The places that were started have the first senders, doors and watchers, and there is a door and a watcher for each
 -- of the other senders.
