@@ -79,6 +79,7 @@ where
         form: AnswerForm {
             runs: RectForm::Joined,
             zrle: false,
+            copies: false,
         },
     };
     let room = RunScreen {

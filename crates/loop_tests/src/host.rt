@@ -90,7 +90,7 @@ fn is_seen(alloc: Global, case: &Case<'_>, screen: &mut PlainScreen) -> Result<b
 {
     let have = Have::new(alloc, 2, 1)?;
     let mut cut = Cut::new(alloc, 2, 1)?;
-    let count = screen.cut(&AREA, &have, &mut cut);
+    let count = screen.cut(&AREA, &have, None, &mut cut);
     let is_counted = matches!(count, Ok(count) if count == case.updates);
     let shows = cut.colours.as_slice() == [0xFF0000, 0x0000FF].as_slice();
     let is_second = cut.text.number() == Some(2);

@@ -4,6 +4,8 @@
 #[cfg(test)]
 mod host;
 #[cfg(test)]
+mod noted;
+#[cfg(test)]
 mod puts;
 #[cfg(test)]
 mod screen;

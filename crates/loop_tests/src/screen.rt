@@ -19,7 +19,7 @@ impl<J: Naming> Reads for Watcher<J> {
 
     fn reads(&mut self, room: &mut Room) -> Option<(u64, u64)> {
         let looked = self.look();
-        let cut = self.cut(&ALL, &room.have, &mut room.cut).ok()?;
+        let cut = self.cut(&ALL, &room.have, None, &mut room.cut).ok()?;
         if room.shows(cut) {
             Some((looked, cut))
         } else {
@@ -334,7 +334,7 @@ fn comes_right<J: Naming + Publishes, R: Wait + Drop>(
         }
         Act::Looks(n) => watcher.look() == *n,
         Act::Cuts(n) => {
-            let cut = watcher.cut(&ALL, &room.have, &mut room.cut);
+            let cut = watcher.cut(&ALL, &room.have, None, &mut room.cut);
             matches!(cut, Ok(number) if number == *n) && room.shows(*n)
         }
         Act::Shows(n) => room.shows(*n),
@@ -403,7 +403,7 @@ fn all_cut<J: Naming + Publishes, R: Wait + Drop>(
     let mut right = true;
     for watcher in watchers {
         watcher.meet(publisher);
-        let cut = watcher.cut(&ALL, &room.have, &mut room.cut);
+        let cut = watcher.cut(&ALL, &room.have, None, &mut room.cut);
         right = matches!(cut, Ok(found) if found == number) && room.shows(number) && right;
     }
     right
@@ -461,7 +461,7 @@ fn is_gone<J: Naming>(watchers: &mut [Watcher<J>], rooms: &mut [Room], last: u64
     };
     let mut right = true;
     for watcher in watchers {
-        let cut = watcher.cut(&ALL, &room.have, &mut room.cut);
+        let cut = watcher.cut(&ALL, &room.have, None, &mut room.cut);
         right = watcher.look() == last && matches!(cut, Err(Fault::Gone)) && right;
     }
     right

@@ -22,6 +22,7 @@ use viewer_session::{AnswerForm, Session};
 const FORM: AnswerForm = AnswerForm {
     runs: RectForm::OfRows,
     zrle: false,
+    copies: false,
 };
 
 /// The end of a relay that is full for this many calls, and refuses the input of this number for good. It counts what

@@ -1,7 +1,6 @@
 //! What a viewer's loop tells the source of the forms that its answers would use, and for how long.
 
-ghost use Rattle.std.specs.Prelude.{◌≡◌, length};
-
+use crate::noted::{NotedScreen, Notes};
 use crate::watch::{ALWAYS, link_of, make_watch, red_and_blue};
 use fault::Fault;
 use input_relay::relay;
@@ -9,14 +8,11 @@ use joined_runs::RectForm;
 use link::{Gave, Took};
 use painter::Wanted;
 use pixel_format::Format;
-use raster::Rect;
-use reflect_core::{Cut, PlainScreen, ScreenSource};
 use roles::Role;
 use std::alloc::Global;
 use std::sync::Wait;
 use std::sync::atomic::{AtomicU64, Ordering};
 use std::test::Fail;
-use tiles::Have;
 use viewer_server::{Beginning, NoProgress, Visit, run_viewer};
 use viewer_session::{AnswerForm, Session};
 
@@ -32,13 +28,6 @@ const NO_LONGER: u64 = 2;
 /// Something else was wanted than is told here.
 const OTHERWISE: u64 = 3;
 
-/// A screen that is told in which format forms are wanted.
-#[derive(Drop)]
-struct Told {
-    screen: PlainScreen,
-    wish: AtomicU64,
-}
-
 /// What was wanted with this wish after that one.
 fn after(before: u64, format: Option<Format>) -> u64 {
     match format {
@@ -49,36 +38,16 @@ fn after(before: u64, format: Option<Format>) -> u64 {
     }
 }
 
-impl ScreenSource for Told {
-    ghost known = { λ s. s.screen.updates };
+/// What was wanted last, by its number.
+#[derive(Drop)]
+struct LastWish {
+    number: AtomicU64,
+}
 
-    ghost answered = { λ s. length s.screen.updates };
-
-    ghost width = { λ s. s.screen.width };
-
-    ghost height = { λ s. s.screen.height };
-
-    ghost may_end = { ⊥ };
-
-    ghost looks = { λ old reply new. (reply ≡ old.screen.tally) × (new.screen ≡ old.screen) };
-
-    ghost cuts = { λ old number new. (number ≡ length old.screen.updates) × (new ≡ old) };
-
-    fn size(&self) -> (u64, u64) {
-        self.screen.size()
-    }
-
-    fn look(&mut self) -> u64 {
-        self.screen.look()
-    }
-
-    fn cut(&mut self, area: &Rect, have: &Have, into: &mut Cut) -> Result<u64, Fault> {
-        self.screen.cut(area, have, into)
-    }
-
+impl Notes for LastWish {
     fn want(&self, wanted: Wanted) {
-        let before = self.wish.load(Ordering::SeqCst);
-        self.wish
+        let before = self.number.load(Ordering::SeqCst);
+        self.number
             .store(after(before, wanted.forms), Ordering::SeqCst);
     }
 }
@@ -114,16 +83,22 @@ fn wish_for<R: Wait + Drop + Copy>(
     let Some(sink) = senders.pop() else {
         return Err(Fault::Gone);
     };
-    let source = Told {
+    let source = NotedScreen {
         screen: red_and_blue(alloc)?,
-        wish: AtomicU64::new(NONE),
+        notes: LastWish {
+            number: AtomicU64::new(NONE),
+        },
     };
     let session = Session::ready(
         alloc,
         2,
         1,
         Role::View,
-        AnswerForm { runs, zrle: false },
+        AnswerForm {
+            runs,
+            zrle: false,
+            copies: false,
+        },
         None,
     )?;
     let watch = make_watch(ALWAYS);
@@ -131,7 +106,7 @@ fn wish_for<R: Wait + Drop + Copy>(
     let mut visit = Visit::new(&first, link, source, sink, session);
     let _ = run_viewer(&rt, &mut visit, &watch, &watch, &NoProgress);
     let (_link, source, _sink, _session) = visit.into_parts(());
-    Ok(source.wish.load(Ordering::SeqCst))
+    Ok(source.notes.number.load(Ordering::SeqCst))
 }
 
 /// While a viewer is served its source is told in which format its answers would use forms, and then that they no

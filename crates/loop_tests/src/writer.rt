@@ -2,58 +2,33 @@
 
 ghost use Rattle.std.specs.Prelude.{◌≡◌, length};
 
+use crate::noted::{NotedScreen, Notes};
 use crate::watch::{ALWAYS, Watch, link_of, make_watch, number, red_and_blue};
 use fault::{Fault, LIMIT};
 use host_writer::{DropCount, TellBeginning, Telling, run_writer};
 use input_relay::{Sender, Taker, relay};
 use link::{Gave, MemoryLink};
-use raster::Rect;
-use reflect_core::{Cut, PlainScreen, ScreenSource};
+use reflect_core::PlainScreen;
 use rfb_wire::Text;
 use roles::{Input, Strokes};
 use std::alloc::Global;
 use std::sync::Wait;
 use std::sync::atomic::Ordering;
 use std::test::Fail;
-use tiles::Have;
 
-/// A screen that sets a flag at its tenth look.
+/// Sets a flag at the tenth look.
 #[derive(Drop)]
 struct TenLooks<'a> {
-    screen: PlainScreen,
-    looks: u64,
+    count: u64,
     flag: &'a Watch,
 }
 
-impl<'a> ScreenSource for TenLooks<'a> {
-    ghost known = { λ s. s.screen.updates };
-
-    ghost answered = { λ s. length s.screen.updates };
-
-    ghost width = { λ s. s.screen.width };
-
-    ghost height = { λ s. s.screen.height };
-
-    ghost may_end = { ⊥ };
-
-    ghost looks = { λ old reply new. (reply ≡ old.screen.tally) × (new.screen ≡ old.screen) };
-
-    ghost cuts = { λ old number new. (number ≡ length old.screen.updates) × (new ≡ old) };
-
-    fn size(&self) -> (u64, u64) {
-        self.screen.size()
-    }
-
-    fn look(&mut self) -> u64 {
-        self.looks = self.looks.saturating_add(1);
-        if self.looks == 10 {
+impl<'a> Notes for TenLooks<'a> {
+    fn look(&mut self) {
+        self.count = self.count.saturating_add(1);
+        if self.count == 10 {
             self.flag.asked.store(ALWAYS, Ordering::SeqCst);
         }
-        self.screen.look()
-    }
-
-    fn cut(&mut self, area: &Rect, have: &Have, into: &mut Cut) -> Result<u64, Fault> {
-        self.screen.cut(area, have, into)
     }
 }
 
@@ -154,10 +129,12 @@ fn tells<R: Wait + Drop>(
     requires places { length strokes.counts ≡ 2 }
 {
     let watch = make_watch(case.stop);
-    let source = TenLooks {
+    let source = NotedScreen {
         screen,
-        looks: 0,
-        flag: &watch,
+        notes: TenLooks {
+            count: 0,
+            flag: &watch,
+        },
     };
     let drops = DropCounter { count: 0 };
     let first = TellBeginning::of(&link, &source, &taker, &strokes, &drops);

@@ -75,7 +75,7 @@ fn shows<J: Naming>(
     };
     let have = Have::new(alloc, view.w, view.h)?;
     let mut cut = Cut::new(alloc, view.w, view.h)?;
-    let number = watcher.cut(&all, &have, &mut cut)?;
+    let number = watcher.cut(&all, &have, None, &mut cut)?;
     Ok(number == last && view.is_held(cut.colours.as_slice(), last))
 }
 
@@ -171,6 +171,32 @@ fn doors_of(
     }
 }
 
+/// The hosts of the run.
+fn hosts_of(alloc: Global, board: &Arc<Board, Global>, course: &Course) -> Result<Queue, Fault> {
+    Ok(Queue {
+        alloc,
+        board: Arc::try_clone(board)?,
+        place: 0,
+        scripts: course.hosts,
+        again: 0,
+        may_end: course.may_end,
+        count: PlaceCount::new(),
+    })
+}
+
+/// The first host of a run over a screen of this view.
+fn joined_of(view: &View) -> Joined
+    ensures { (result.w ≡ view.now.w) × (result.h ≡ view.now.h) }
+{
+    let mut name = ArrayVec::new();
+    name.push(b'T');
+    Joined {
+        w: view.w,
+        h: view.h,
+        name,
+    }
+}
+
 /// A run over a history that J names.
 fn over<J, R>(
     rt: R,
@@ -186,28 +212,19 @@ where
     requires screen { IsScreenSize course.now.view.now.w course.now.view.now.h
         × (course.now.view.now.w ≡ J.width) × (course.now.view.now.h ≡ J.height) }
 {
-    let mut name = ArrayVec::new();
-    name.push(b'T');
     let input = Arc::new(alloc, InputCounts::new())?;
     let shared = RunShared {
         everyone: Arc::new(alloc, NoAlarm)?,
         writer: Arc::new(alloc, NoAlarm)?,
         input: Arc::try_clone(&input)?,
     };
-    let mut further = Queue {
-        alloc,
-        board: Arc::try_clone(board)?,
-        place: 0,
-        scripts: course.hosts,
-        again: 0,
-        may_end: course.may_end,
-        count: PlaceCount::new(),
-    };
+    let mut further = hosts_of(alloc, board, course)?;
     let places = RunPlaces {
         doors: doors_of(alloc, board, course)?,
         form: AnswerForm {
             runs: RectForm::Joined,
             zrle: false,
+            copies: false,
         },
     };
     let Some(first) = Hosts::next(&mut further) else {
@@ -221,11 +238,7 @@ where
     };
     let hosts = RunHosts {
         first,
-        joined: Joined {
-            w: course.view.w,
-            h: course.view.h,
-            name,
-        },
+        joined: joined_of(course.view),
         further,
     };
     let running = run_all::<J, Wire, Queue, Queue, NoAlarm, NoAlarm, R>(

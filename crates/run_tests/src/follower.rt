@@ -113,18 +113,18 @@ enum Source {
     Held(u64, u64),
 }
 
-/// Encodings of rectangles: Raw, CopyRect, RRE and Hextile.
+/// In which encodings rectangles came, or have to come.
 #[derive(Clone, Copy)]
-pub(crate) struct Kinds {
+pub(crate) struct CameEncodings {
     pub(crate) raw: bool,
     pub(crate) copy: bool,
     pub(crate) rre: bool,
     pub(crate) hextile: bool,
 }
 
-impl Kinds {
+impl CameEncodings {
     /// None of them.
-    pub(crate) const NONE: Kinds = Kinds {
+    pub(crate) const NONE: CameEncodings = CameEncodings {
         raw: false,
         copy: false,
         rre: false,
@@ -140,7 +140,7 @@ pub(crate) struct Follower {
     /// Whether what is read is held. Otherwise it is only read.
     is_held: bool,
     /// The encodings in which rectangles came.
-    pub(crate) came: Kinds,
+    pub(crate) came: CameEncodings,
 }
 
 impl Follower {
@@ -150,7 +150,7 @@ impl Follower {
             width: 0,
             held: Vec::new(alloc),
             is_held: false,
-            came: Kinds::NONE,
+            came: CameEncodings::NONE,
         }
     }
 

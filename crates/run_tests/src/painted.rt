@@ -6,7 +6,7 @@ use crate::board::Gate;
 use crate::bytes::HELLO;
 use crate::courses::IS_TOLD;
 use crate::ends::{Course, End};
-use crate::follower::{Area, Format, Kinds};
+use crate::follower::{Area, CameEncodings, Format};
 use crate::peer::{Act, Script, Taking};
 use crate::picture::{Paint, Picture};
 use crate::sight::{Sight, View};
@@ -85,9 +85,9 @@ const TRUE_COLOUR: Script = Script {
             w: 34,
             h: 33,
         },
-        kinds: Kinds {
+        encodings: CameEncodings {
             raw: true,
-            ..Kinds::NONE
+            ..CameEncodings::NONE
         },
     }),
 };
@@ -116,10 +116,10 @@ const HIGH_COLOUR: Script = Script {
             w: 34,
             h: 33,
         },
-        kinds: Kinds {
+        encodings: CameEncodings {
             copy: true,
             rre: true,
-            ..Kinds::NONE
+            ..CameEncodings::NONE
         },
     }),
 };
@@ -148,9 +148,9 @@ const FEW_COLOURS: Script = Script {
             w: 20,
             h: 25,
         },
-        kinds: Kinds {
+        encodings: CameEncodings {
             hextile: true,
-            ..Kinds::NONE
+            ..CameEncodings::NONE
         },
     }),
 };
@@ -179,10 +179,10 @@ const FIVE_BITS: Script = Script {
             w: 34,
             h: 33,
         },
-        kinds: Kinds {
+        encodings: CameEncodings {
             copy: true,
             hextile: true,
-            ..Kinds::NONE
+            ..CameEncodings::NONE
         },
     }),
 };

@@ -1,6 +1,6 @@
 //! What a viewer asks for, and whether it was shown that.
 
-use crate::follower::{Area, Follower, Format, Kinds};
+use crate::follower::{Area, CameEncodings, Follower, Format};
 use crate::picture::Picture;
 
 /// The screen of a run, how its viewers are greeted, and what its host paints, in no more updates than this.
@@ -35,7 +35,7 @@ impl View {
 pub(crate) struct Sight {
     pub(crate) format: Format,
     pub(crate) area: Area,
-    pub(crate) kinds: Kinds,
+    pub(crate) encodings: CameEncodings,
 }
 
 impl Sight {
@@ -73,10 +73,10 @@ impl Sight {
     /// Whether each of the encodings came.
     pub(crate) fn has_come(&self, follower: &Follower) -> bool {
         let came = follower.came;
-        let kinds = &self.kinds;
-        (came.raw || !kinds.raw)
-            && (came.copy || !kinds.copy)
-            && (came.rre || !kinds.rre)
-            && (came.hextile || !kinds.hextile)
+        let encodings = &self.encodings;
+        (came.raw || !encodings.raw)
+            && (came.copy || !encodings.copy)
+            && (came.rre || !encodings.rre)
+            && (came.hextile || !encodings.hextile)
     }
 }
