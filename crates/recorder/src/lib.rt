@@ -13,5 +13,5 @@ mod watch;
 pub use door::{RecorderDoor, RecorderLink, RecordingFiles, RecordingReports};
 pub use file::RecordedFile;
 pub use news::{EndReason, RecordingEnd, RecordingLog, RecordingNews};
-pub use standing::{Recording, Standing};
+pub use standing::{Beginning, Recording, Standing};
 pub use watch::RecorderWatch;

@@ -6,13 +6,35 @@ use std::sync::atomic::{AtomicU64, Ordering};
 use std::sync::{Condvar, Mutex, Wait};
 use std::time::{Clock, Duration};
 
-/// How a recording stands. Times are those of `clock_millis`.
+/// When a recording began, by each of the two clocks.
+#[derive(Clone, Copy, Debug)]
+pub struct Beginning {
+    /// By `clock_millis`.
+    pub millis: u64,
+    /// In whole seconds since the beginning of 1970 in UTC, or 0 where that clock can't be read.
+    pub epoch_seconds: u64,
+}
+
+impl Beginning {
+    /// A recording that begins now.
+    fn now<R: Clock>(rt: &R) -> Beginning {
+        Beginning {
+            millis: clock_millis(rt),
+            epoch_seconds: match rt.since_1970() {
+                Ok(time) => time.as_secs(),
+                Err(_) => 0,
+            },
+        }
+    }
+}
+
+/// How a recording stands.
 #[derive(Clone, Copy, Debug)]
 pub enum Standing {
     /// It waits for the first host.
     Awaited,
-    /// It goes on since this time.
-    Begun(u64),
+    /// It goes on since then.
+    Begun(Beginning),
     /// It ended with the run, or with the recorder's session.
     Ended,
     /// It ended since its file took no more.
@@ -54,7 +76,7 @@ impl Recording {
 
     /// It begins now.
     pub(crate) fn begin<R: Wait + Clock>(&self, rt: &R) {
-        *self.standing.lock(rt) = Standing::Begun(clock_millis(rt));
+        *self.standing.lock(rt) = Standing::Begun(Beginning::now(rt));
     }
 
     /// The recording is over: because its file took no more, where `failure` says so, and otherwise with the run.

@@ -65,8 +65,9 @@ after_input before c =
 abbrev pub after_recorded : List ℕ → RecordingCounts → List ℕ
 after_recorded before r =
     let a = after_one before (codes "recording") (codes "gauge") (codes "1 while the run is recorded.") (one_if r.is_on) in
-    let b = after_one a (codes "recording_failed") (codes "gauge") (codes "1 where the recording ended since its file took no more.") (one_if r.has_failed) in
-    after_one b (codes "recorded_bytes_total") (codes "counter") (codes "Bytes that the file of the recording took.") r.bytes
+    let b = after_one a (codes "recording_start_time_seconds") (codes "gauge") (codes "When the recording began, in seconds since 1970, and 0 while the run isn't recorded.") r.start_seconds in
+    let d = after_one b (codes "recording_failed") (codes "gauge") (codes "1 where the recording ended since its file took no more.") (one_if r.has_failed) in
+    after_one d (codes "recorded_bytes_total") (codes "counter") (codes "Bytes that the file of the recording took.") r.bytes
 
 abbrev pub after_lag : List ℕ → Lag → List ℕ
 after_lag before lag =

@@ -23,6 +23,8 @@ pub struct Lag {
 pub struct RecordingCounts {
     /// Whether the run is being recorded.
     pub is_on: bool,
+    /// When the recording that goes on began, in seconds since the beginning of 1970 in UTC: 0 where none goes on.
+    pub start_seconds: u64,
     /// Whether the recording ended since its file took no more.
     pub has_failed: bool,
     /// How many bytes its file took.

@@ -86,6 +86,12 @@ const RECORDING: Family<'static> = Family {
     help: "1 while the run is recorded.",
 };
 
+const RECORDING_START: Family<'static> = Family {
+    name: "recording_start_time_seconds",
+    kind: "gauge",
+    help: "When the recording began, in seconds since 1970, and 0 while the run isn't recorded.",
+};
+
 const RECORDING_FAILED: Family<'static> = Family {
     name: "recording_failed",
     kind: "gauge",
@@ -150,6 +156,7 @@ fn put_recorded(text: &mut String, recorded: &RecordingCounts) -> Result<(), All
         (string_bytes text.new ≡ after_recorded (string_bytes text.old) recorded.now) }
 {
     put_single(text, RECORDING, u64::from(recorded.is_on))?;
+    put_single(text, RECORDING_START, recorded.start_seconds)?;
     put_single(text, RECORDING_FAILED, u64::from(recorded.has_failed))?;
     put_single(text, RECORDED, recorded.bytes)
 }
