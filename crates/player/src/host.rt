@@ -101,7 +101,8 @@ impl<R: Wait + Clock + Drop, F: Recorded> PlayedHost<R, F> {
         }
     }
 
-    /// Why the recording can't be played on, if it can't: from then on the link fails. A link that is closed doesn't say.
+    /// Why the recording can't be played on, if it can't: from then on the link fails. A link that is closed doesn't
+    /// say.
     pub fn why(&self) -> Option<BadPlayback>
         ensures { result ≡ option_and_then (λ played. played.why) self.now.below }
     {

@@ -30,8 +30,8 @@ struct Deck {
 }
 
 /// Plays one recording after another, each from the same time on and at the same speed, unless an operator asks for
-/// something else. The thread that reads the recording and the one that hears the operator share it: no clause says what
-/// stands here.
+/// something else. The thread that reads the recording and the one that hears the operator share it: no clause says
+/// what stands here.
 #[derive(Drop)]
 pub struct Player {
     from: u64,

@@ -35,9 +35,9 @@ pub fn index_of<F: Recorded, R: Wait>(
     Ok(index)
 }
 
-/// Writes the index of a recording, whose file is at its beginning, into a new file, once all of the recording was read.
-/// It fails with `Rebuild` where that can't be read on or its session is at fault, with `Memory` where memory is refused,
-/// with `HasIndex` where the new file is there already, and with `Output` where it can't be written.
+/// Writes the index of a recording, whose file is at its beginning, into a new file, once all of the recording was
+/// read. It fails with `Rebuild` where that can't be read on or its session is at fault, with `Memory` where memory is
+/// refused, with `HasIndex` where the new file is there already, and with `Output` where it can't be written.
 pub fn write_into<F: Recorded, N: NewFile, R: Wait>(
     rt: &R,
     alloc: Global,
@@ -56,9 +56,9 @@ pub fn write_into<F: Recorded, N: NewFile, R: Wait>(
 }
 
 /// Writes the index of the recording at a path into a new file beside it (`index_path`), once all of the recording was
-/// read. It fails with `Input` where the recording can't be opened, with `HasIndex` where there is a file at the index's
-/// path, which stays as it is, and otherwise as `write_into` does. After an error no new file is there, but where the
-/// system refuses to take away a part that it has written.
+/// read. It fails with `Input` where the recording can't be opened, with `HasIndex` where there is a file at the
+/// index's path, which stays as it is, and otherwise as `write_into` does. After an error no new file is there, but
+/// where the system refuses to take away a part that it has written.
 pub fn write_index<R: Files + Wait>(
     rt: &R,
     alloc: Global,

@@ -19,8 +19,8 @@ pub trait NewFile {
     /// The fact that no file can be made, or that it takes no more. Only `make` tells it.
     ghost has_failed: { Type 0 };
 
-    /// Makes the file, with these bytes. It fails with `HasIndex` where there is one, and with `Output` where none can be
-    /// made, or it takes no more.
+    /// Makes the file, with these bytes. It fails with `HasIndex` where there is one, and with `Output` where none can
+    /// be made, or it takes no more.
     fn make(&mut self, bytes: &[u8]) -> Result<(), IndexError>
         ensures { MakesAs result has is_there has_failed bytes.now };
 }
