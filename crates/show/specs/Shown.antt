@@ -15,11 +15,14 @@ pub record ShowsAsPng (old new : LinkState) (bytes : List ℕ) : Type 0 where
   pub file : IsPng picture.width picture.height picture.colours bytes
 
 -- The bytes are a file of PNG that shows a recording. All was taken of it that is heard of its blocks up to the time up
--- to which it is played, and nothing more comes.
+-- to which it is played, and nothing more comes. That time is the one up to which it was to be played, and so is the
+-- place from which on.
 pub record ShowsRecording (has_come : ℕ → Type 0) (is_all : ℕ → List ℕ → Type 0) (old new : Played) (bytes : List ℕ) : Type 0 where
   pub shows : ShowsAsPng (state_of old) (state_of new) bytes
   pub played : IsPlayed has_come new
   pub out : IsPlayedOut is_all new
+  pub until : new.until ≡ old.until
+  pub key : new.key ≡ old.key
 
 -- There is no picture, or no memory for its file.
 abbrev pub HasNoPng : Fault → (old new : LinkState) → Type 0

@@ -8,6 +8,7 @@
 mod at_once;
 mod error;
 mod file;
+mod marked;
 mod session;
 mod written;
 

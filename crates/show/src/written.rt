@@ -43,8 +43,8 @@ fn shot_at<R: Files + Wait>(
     at: Option<u64>,
 ) -> Result<Shot, ShowError> {
     let opened = fs::open(rt, recording).map_err(ShowError::Input)?;
-    let mut link = PlayedLink::new(alloc, RecordingFile::new(opened), AtOnce, at)?;
-    let file = png_of_recording(rt, alloc, &mut link);
+    let link = PlayedLink::new(alloc, RecordingFile::new(opened), AtOnce, at)?;
+    let (file, link) = png_of_recording(rt, alloc, link);
     let time = link.time();
     let file = file.map_err(|fault| reason(fault, link.why()));
     Ok(Shot { file, time })
