@@ -5,12 +5,14 @@
 //! Memory: for clap's command and matches, for the texts that are kept, and for the text of a bad line.
 #![tactic(auto)]
 
+mod arguments;
 mod asking;
 mod bad_line;
 mod command;
 mod law;
 mod options;
 mod program;
+mod serve_command;
 mod showing;
 mod task;
 

@@ -9,7 +9,7 @@ ghost use Rattle.command_line.specs.Serve.{serve};
 ghost use Rattle.command_line.specs.Values.{AreValuesOf, HasPlaces, HasPort, HasSeconds, HasText, HasValues, IsMisread, IsNumberOf, MayHavePause, MayHavePort, flag_of, texts_in};
 
 use crate::bad_line::BadLine;
-use crate::command::serve_command;
+use crate::serve_command::serve_command;
 use clap::ArgMatches;
 use play_control::{ClockTime, Speed};
 use settings::{Room, Settings, recording_path};

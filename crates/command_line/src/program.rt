@@ -79,8 +79,8 @@ where
 
 /// Does what these words say, which are those after the program's name, and answers the exit status: that of
 /// `replay::replay` or of `serve`; of `control` 0 with the answer on standard output, or 1 with the reason on standard
-/// error; of `show` 0, or 3 with the reason on standard error; 2 where the line is no command, with what is wrong with it
-/// on standard error; 4 where memory is refused.
+/// error; of `show` 0, or 3 with the reason on standard error; 2 where the line is no command, with what is wrong with
+/// it on standard error; 4 where memory is refused.
 pub fn run_words<R, I, O>(rt: R, alloc: Global, words: &[String], reader: I, writer: O) -> u8
 where
     R: Runtime + Files<File = File> + AllocGlobal + Env + Print + Eprint,

@@ -159,8 +159,9 @@ fn status_of_index<R: Eprint>(rt: &R, from: &str, written: Result<(), IndexError
     }
 }
 
-/// Does what a line of `show` asks for, whose words are these, and answers the exit status: 0; 2 where it can't be read;
-/// 3 where there is nothing to show, or it can't be written; or 4 where memory is refused. Standard error has the reason.
+/// Does what a line of `show` asks for, whose words are these, and answers the exit status: 0; 2 where it can't be
+/// read; 3 where there is nothing to show, or it can't be written; or 4 where memory is refused. Standard error has the
+/// reason.
 pub fn show_words<R: Files + Wait + Eprint>(rt: &R, alloc: Global, words: &[String]) -> u8
     ensures { MayEndAShowing result }
 {

@@ -1,7 +1,7 @@
 -- Each group of options is added to the command with the groups before it.
 use Rattle.std.proofs.lemmas.Result.{IfOk-weaker}
 use Rattle.command_line.proofs.Added.{added}
-use Rattle.command_line.proofs.command.serve_command.Goals as goal
+use Rattle.command_line.proofs.serve_command.serve_command.Goals as goal
 
 pub returns : goal.returns
 returns c =

@@ -1,11 +1,13 @@
 use Rattle.std.proofs.Common.{◌∙◌, ap, map, refl}
 use Rattle.clap.specs.Words.{rule_of}
 use Rattle.command_line.proofs.RuleLists.{also}
-use Rattle.command_line.proofs.command.screen_options.Goals as goal
+use Rattle.command_line.proofs.serve_command.port_options.Goals as goal
 
 pub returns-clause-rules : goal.returns-clause-rules
 returns-clause-rules c =
     ap (map rule_of) c.in_ok-options.ensures.items
-    ∙ also c.option.ensures.rule
-    (also c.flag.ensures.rule
-    (also c.flag-2.ensures.rule refl))
+    ∙ also c.bind.ensures.rule
+    (also c.option.ensures.rule
+    (also c.port.ensures.rule
+    (also c.port-2.ensures.rule
+    (also c.flag.ensures.rule refl))))

@@ -1,12 +1,11 @@
 use Rattle.std.proofs.Common.{◌∙◌, ap, map, refl}
 use Rattle.clap.specs.Words.{rule_of}
 use Rattle.command_line.proofs.RuleLists.{also}
-use Rattle.command_line.proofs.command.browser_options.Goals as goal
+use Rattle.command_line.proofs.serve_command.machine_options.Goals as goal
 
 pub returns-clause-rules : goal.returns-clause-rules
 returns-clause-rules c =
     ap (map rule_of) c.in_ok-options.ensures.items
-    ∙ also c.web_port.ensures.rule
-    (also c.web_port-2.ensures.rule
-    (also c.option.ensures.rule
-    (also c.repeated.ensures.rule refl)))
+    ∙ also c.option.ensures.rule
+    (also c.option-2.ensures.rule
+    (also c.flag.ensures.rule refl))
