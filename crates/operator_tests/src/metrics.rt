@@ -46,6 +46,9 @@ reflectord_input_dropped_total 10
 # HELP reflectord_recording 1 while the run is recorded.
 # TYPE reflectord_recording gauge
 reflectord_recording 1
+# HELP reflectord_recording_start_time_seconds When the recording began, in seconds since 1970, and 0 while the run isn't recorded.
+# TYPE reflectord_recording_start_time_seconds gauge
+reflectord_recording_start_time_seconds 1796083200
 # HELP reflectord_recording_failed 1 where the recording ended since its file took no more.
 # TYPE reflectord_recording_failed gauge
 reflectord_recording_failed 0
@@ -75,6 +78,7 @@ fn counters() -> Counters {
         dropped: 10,
         recorded: RecordingCounts {
             is_on: true,
+            start_seconds: 1_796_083_200,
             has_failed: false,
             bytes: 13,
         },

@@ -59,6 +59,7 @@ fn counters(is_joined: bool, full: u64, view: u64) -> Counters {
         dropped: 0,
         recorded: RecordingCounts {
             is_on: false,
+            start_seconds: 0,
             has_failed: false,
             bytes: 0,
         },

@@ -22,6 +22,7 @@ fn counters(is_joined: bool, view: u64) -> Counters {
         dropped: 14,
         recorded: RecordingCounts {
             is_on: false,
+            start_seconds: 0,
             has_failed: false,
             bytes: 0,
         },

@@ -8,7 +8,7 @@ use Rattle.recorder.specs.declared.news.EndReason.{EndReason}
 use Rattle.recorder.specs.declared.news.EndReason.TheVariants.{RunOver}
 use Rattle.recorder.specs.declared.news.RecordingNews.{RecordingNews}
 use Rattle.recorder.specs.declared.news.RecordingNews.TheVariants.{Begun, Ended}
-use Rattle.serve.specs.declared.incident.Incident.TheVariants.{Noted, MetricsListening, HostsListening, HostStopped, HostSkipped, RecordingSought, RecordingBad, Recording}
+use Rattle.serve.specs.declared.incident.Incident.TheVariants.{Noted, MetricsListening, HostsListening, HostStopped, HostSkipped, RecordingSought, RecordingBad, IndexUnused, Recording}
 
 -- A host that has ended by itself, or wasn't joined, is a warning, and so is a port that is open to all. Nothing else
 -- that happens at the doors is one.
@@ -27,7 +27,8 @@ news_gravity Begun = Plain
 news_gravity (Ended end) = end_gravity end.why
 
 -- A host that was left because the run was asked to stop, for its next host, or for another time, is no warning either.
--- A recording that can't be played on is one, as each host that has ended by itself.
+-- A recording that can't be played on is one, as each host that has ended by itself, and so is an index that isn't
+-- used.
 abbrev pub gravity_for : Incident → Gravity
 gravity_for (Noted event) = event_gravity event.now
 gravity_for (MetricsListening address) = Plain
@@ -36,4 +37,5 @@ gravity_for (HostStopped address cut) = Plain
 gravity_for (HostSkipped address skip) = Plain
 gravity_for RecordingSought = Plain
 gravity_for (RecordingBad bad) = Warning
+gravity_for (IndexUnused path why) = Warning
 gravity_for (Recording path news) = news_gravity news.now

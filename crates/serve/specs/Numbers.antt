@@ -57,10 +57,10 @@ pub record IsLag (numbers : List ℕ) (lag : Lag) : Type 0 where
 
 -- What is counted of a recording that stands so, whose file took so many bytes.
 abbrev pub recorded_as : Standing → ℕ → RecordingCounts
-recorded_as Awaited bytes = record { is_on = false; has_failed = false; bytes = bytes }
-recorded_as (Begun since) bytes = record { is_on = true; has_failed = false; bytes = bytes }
-recorded_as Ended bytes = record { is_on = false; has_failed = false; bytes = bytes }
-recorded_as (Failed kind) bytes = record { is_on = false; has_failed = true; bytes = bytes }
+recorded_as Awaited bytes = record { is_on = false; start_seconds = 0; has_failed = false; bytes = bytes }
+recorded_as (Begun began) bytes = record { is_on = true; start_seconds = began.epoch_seconds; has_failed = false; bytes = bytes }
+recorded_as Ended bytes = record { is_on = false; start_seconds = 0; has_failed = false; bytes = bytes }
+recorded_as (Failed kind) bytes = record { is_on = false; start_seconds = 0; has_failed = true; bytes = bytes }
 
 -- The numbers of a run that stands so, in which that has happened. It has these places, so many inputs of viewers wait
 -- and were dropped, and that is counted of its recording.

@@ -29,9 +29,10 @@ viewer_roles settings = replicate (places_for Full settings) Full ++ replicate s
 abbrev pub roles_for : Settings → List Role
 roles_for settings = viewer_roles settings ++ (if is_some settings.recording then View ∷ [] else [])
 
--- How all viewers are answered: RRE and Hextile in the form of the settings, and ZRLE unless the settings say otherwise.
+-- How all viewers are answered: RRE and Hextile in the form of the settings, and ZRLE unless the settings say
+-- otherwise. Copies of the host are passed on to viewers that take them.
 abbrev pub form_for : Settings → AnswerForm
-form_for settings = record { runs = rect_form_for settings; zrle = not settings.no_zrle }
+form_for settings = record { runs = rect_form_for settings; zrle = not settings.no_zrle; copies = true }
 
 -- A run by these settings: its room has their size, or that of its first host's screen; its hosts are joined with a
 -- password exactly where the settings have a file for one; its places have their roles; and its viewers are answered in

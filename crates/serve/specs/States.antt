@@ -22,7 +22,7 @@ seconds_from since now = (now - since) / 1000
 -- How a recording stands, and for how many seconds it has gone on.
 abbrev pub told_of : ℕ → Standing → RecordingState × ℕ
 told_of now standing.Awaited = (state.Awaited, 0)
-told_of now (standing.Begun since) = (state.On, seconds_from since now)
+told_of now (standing.Begun began) = (state.On, seconds_from began.millis now)
 told_of now standing.Ended = (state.Ended, 0)
 told_of now (standing.Failed kind) = (state.Failed, 0)
 

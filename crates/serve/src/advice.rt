@@ -1,5 +1,5 @@
-//! What a trouble means to whoever runs the program, and what to try. The texts stand in modules by what they are about:
-//! `word_advice` words of the command line, `file_advice` files, `listen_advice` addresses to listen on, and
+//! What a trouble means to whoever runs the program, and what to try. The texts stand in modules by what they are
+//! about: `word_advice` words of the command line, `file_advice` files, `listen_advice` addresses to listen on, and
 //! `host_advice` hosts.
 
 use crate::trouble::{Stage, Trouble};

@@ -45,6 +45,10 @@ fn recorded_as(standing: Standing, bytes: u64) -> RecordingCounts
 {
     RecordingCounts {
         is_on: matches!(standing, Standing::Begun(_)),
+        start_seconds: match standing {
+            Standing::Begun(began) => began.epoch_seconds,
+            _ => 0,
+        },
         has_failed: matches!(standing, Standing::Failed(_)),
         bytes,
     }
@@ -59,6 +63,7 @@ pub(crate) fn recorded_of<R: Wait>(
         Some(recording) => recorded_as(recording.standing(rt), recording.bytes()),
         None => RecordingCounts {
             is_on: false,
+            start_seconds: 0,
             has_failed: false,
             bytes: 0,
         },

@@ -13,5 +13,6 @@ pub(crate) fn form_of(settings: &Settings) -> AnswerForm
     AnswerForm {
         runs: rect_form_of(settings),
         zrle: !settings.no_zrle,
+        copies: true,
     }
 }

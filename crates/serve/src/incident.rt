@@ -5,6 +5,7 @@ ghost use Rattle.serve.specs.Gravities.{end_gravity, gravity_for};
 
 use crate::order::{SkipOrder, StopOrder};
 use playback::BadPlayback;
+use player::UnusedIndex;
 use recorder::{EndReason, RecordingEnd, RecordingNews};
 use run_reports::Gravity;
 use run_traits::{Event, Log};
@@ -27,6 +28,8 @@ pub(crate) enum Incident<'a> {
     RecordingSought,
     /// The recording that was played was left because it can't be played on, for this reason.
     RecordingBad(BadPlayback),
+    /// The index beside the recording at this path isn't used, for this reason.
+    IndexUnused(&'a str, UnusedIndex),
     /// This happens to the recording at this path.
     Recording(&'a str, &'a RecordingNews),
 }
@@ -48,14 +51,14 @@ fn end_gravity(end: &RecordingEnd) -> Gravity
 }
 
 /// How grave it is that this happens: a host that has ended by itself, or wasn't joined, is a warning, and so is a port
-/// that is open to all, and a recording that ended before the run.
+/// that is open to all, a recording that ended before the run, and an index that isn't used.
 pub(crate) fn gravity_of(incident: &Incident<'_>) -> Gravity
     ensures { result ≡ gravity_for incident.now }
 {
     match incident {
         Incident::Noted(Event::HostOut { .. }) => Gravity::Warning,
         Incident::Noted(Event::OpenToAll { .. }) => Gravity::Warning,
-        Incident::RecordingBad(_) => Gravity::Warning,
+        Incident::RecordingBad(_) | Incident::IndexUnused(..) => Gravity::Warning,
         Incident::Recording(_, RecordingNews::Ended(end)) => end_gravity(end),
         _ => Gravity::Plain,
     }

@@ -447,6 +447,12 @@ impl Display for Words<'_> {
             }
             Incident::RecordingSought => f.write_str("host-out address=- why=\"seek\""),
             Incident::RecordingBad(bad) => write!(f, "host-out address=- why=\"{bad}\""),
+            Incident::IndexUnused(path, why) => {
+                let path = Quoted {
+                    bytes: path.as_bytes(),
+                };
+                write!(f, "index-unused recording=\"{path}\" why=\"{why}\"")
+            }
             Incident::HostSkipped(address, _skip) => {
                 let place = AddressOrDash { address: *address };
                 write!(f, "host-out address={place} why=\"next\"")

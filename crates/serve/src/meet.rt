@@ -14,7 +14,7 @@ use connections::{HostCall, HostLink, HostListener, JoiningLink};
 use fault::Fault;
 use host_turns::HostEnds;
 use link::join_host;
-use player::{DeafLink, Player, open_recording};
+use player::{DeafLink, OpenedRecording, Player, UnusedIndex, open_recording};
 use rfb_wire::Joined;
 use settings::{Room, fits};
 use std::alloc::Global;
@@ -75,6 +75,7 @@ fn connect<R: Net<Stream = TcpStream> + Wait + Clock + Copy + Drop>(
         reader: HostEnd::Tcp(reader),
         writer: HostEnd::Tcp(JoiningLink::without_limit(rt, writer)),
         has_called: false,
+        unused_index: None,
     })
 }
 
@@ -106,6 +107,7 @@ pub(crate) fn called<R: Wait + Clock + Copy + Drop>(
         reader: HostEnd::Tcp(reader),
         writer: HostEnd::Tcp(JoiningLink::without_limit(rt, writer)),
         has_called: true,
+        unused_index: None,
     }))
 }
 
@@ -132,12 +134,13 @@ pub(crate) fn opened<R: Files<File = File> + Wait + Clock + Copy + Drop>(
         Err(_) => return Err(missed(io::Error::from(ErrorKind::OutOfMemory))),
     };
     match open_recording(rt, alloc, path, player) {
-        Ok(host) => Ok(Reached {
+        Ok(OpenedRecording { host, unused_index }) => Ok(Reached {
             address: None,
             grip,
             reader: HostEnd::Played(host),
             writer: HostEnd::Deaf(DeafLink::new()),
             has_called: false,
+            unused_index,
         }),
         Err(error) => Err(missed(error)),
     }
@@ -153,6 +156,8 @@ pub(crate) struct Reached<R: Wait + Clock + Drop> {
     pub(crate) writer: HostEnd<R>,
     /// Whether it has called.
     pub(crate) has_called: bool,
+    /// Why the index of a recording isn't used, if it has one that isn't.
+    pub(crate) unused_index: Option<UnusedIndex>,
 }
 
 /// A host that wasn't connected to: the last address that was tried, or none where the system had none for its name,

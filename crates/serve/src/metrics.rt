@@ -118,9 +118,8 @@ where
     Ok(Opened { run, machines })
 }
 
-/// What a machine is answered from, of a run that stands so, in which that has happened, with these places and inputs, and
-/// this recording.
-/// It fails where memory is refused for that.
+/// What a machine is answered from, of a run that stands so, in which that has happened, with these places and inputs,
+/// and this recording. It fails where memory is refused for that.
 fn watched_of(
     alloc: Global,
     run_card: &RunCard,

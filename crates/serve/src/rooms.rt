@@ -7,7 +7,9 @@ ghost use Rattle.settings.specs.ByRole.{HasPlaces, places_for};
 ghost use Rattle.roles.specs.declared.role.Role.TheVariants.{Full, View};
 ghost use Rattle.serve.specs.Doors.{AreDoorsFor, AreBoth, AreNumbered, HaveTheirRoles, IsFullEntry, roles_in};
 
+use crate::entries::Entrances;
 use crate::incident::RunLog;
+use crate::means::Means;
 use crate::open::RoleEntry;
 use crate::place_door::PlaceDoor;
 use crate::runtime::{Runtime, STACK};
@@ -28,8 +30,8 @@ use std::time::{Clock, Duration};
 /// For how long viewers are waited for once the host has ended, in milliseconds.
 const GOODBYE_MILLIS: u64 = 1_000;
 
-/// The doors of all places of viewers with their roles, and where each place's thread waits. They are of the type that the
-/// recorder's door has, too.
+/// The doors of all places of viewers with their roles, and where each place's thread waits. They are of the type that
+/// the recorder's door has, too.
 #[derive(Drop)]
 pub(crate) struct Rooms<R: Wait + Clock + Drop + Copy + Send, G: RunLog + Drop + Send> {
     pub(crate) doors: Vec<(Role, PlaceDoor<R, G>)>,
@@ -58,11 +60,9 @@ where
     #[tactic(auto, using(crate::proofs::Roles::one_more, crate::proofs::Numbered::one_more))]
     fn add(
         &mut self,
-        rt: R,
-        alloc: Global,
+        means: &Means<'_, R, G>,
         entry: &RoleEntry<'_>,
         seat: Seat,
-        log: &G,
     ) -> Result<(), Fault>
         requires { length self.old.doors.items < 64 }
         ensures count { OnOk result
@@ -73,11 +73,18 @@ where
             ≡ roles_in self.old.doors.items ++ (arc_value entry.now.lobby).role ∷ []) }
     {
         let place = self.doors.len() as u64 + 1;
-        let seat = Arc::new(alloc, seat)?;
+        let seat = Arc::new(means.alloc, seat)?;
         self.seats.push(Arc::try_clone(&seat)?)?;
         let lobby = Arc::try_clone(&entry.lobby)?;
         let role = lobby.role();
-        let door = TcpDoor::new(rt, alloc, lobby, seat, place, log.clone()?);
+        let door = TcpDoor::new(
+            *means.rt,
+            means.alloc,
+            lobby,
+            seat,
+            place,
+            means.log.clone()?,
+        );
         self.doors.push((role, PlaceDoor::of_viewers(door)))?;
         Ok(())
     }
@@ -86,11 +93,9 @@ where
     #[tactic(auto, using(crate::proofs::Counts::entry_places))]
     fn add_full(
         &mut self,
-        rt: R,
-        alloc: Global,
+        means: &Means<'_, R, G>,
         settings: &Settings,
         full: &Option<RoleEntry<'_>>,
-        log: &G,
     ) -> Result<(), Trouble>
         requires none { self.old.doors.items ≡ [] }
         requires entry { IsFullEntry settings.now full.now }
@@ -103,7 +108,7 @@ where
     {
         let _settings = settings;
         match full {
-            Some(entry) => self.add_all(rt, alloc, entry, log),
+            Some(entry) => self.add_all(means, entry),
             None => Ok(()),
         }
     }
@@ -111,10 +116,8 @@ where
     /// Adds the places of one more role, as many as the entry's settings say.
     pub(crate) fn add_all(
         &mut self,
-        rt: R,
-        alloc: Global,
+        means: &Means<'_, R, G>,
         entry: &RoleEntry<'_>,
-        log: &G,
     ) -> Result<(), Trouble>
         requires { length self.old.doors.items
             + places_for (arc_value entry.now.lobby).role entry.now.settings.now < 65 }
@@ -128,11 +131,11 @@ where
     {
         let places = places_of(entry.settings, entry.lobby.role());
         for _place in 0..places {
-            let seat = match Seat::new(&rt, alloc) {
+            let seat = match Seat::new(means.rt, means.alloc) {
                 Ok(seat) => seat,
                 Err(error) => return Err(Trouble::of(Stage::Start, error)),
             };
-            if let Err(fault) = self.add(rt, alloc, entry, seat, log) {
+            if let Err(fault) = self.add(means, entry, seat) {
                 return Err(Trouble::new(Stage::Start, fault));
             }
         }
@@ -143,30 +146,27 @@ where
 /// The places that the settings say, whose viewers come in by these entries.
 #[tactic(auto, using(crate::proofs::Counts::full_most, crate::proofs::Counts::entry_places))]
 pub(crate) fn rooms_of<R, G>(
-    rt: R,
-    alloc: Global,
+    means: &Means<'_, R, G>,
     settings: &Settings,
-    full: &Option<RoleEntry<'_>>,
-    view: &RoleEntry<'_>,
-    log: &G,
+    entrances: &Entrances<'_>,
 ) -> Result<Rooms<R, G>, Trouble>
 where
     R: Wait + Clock + Drop + Copy + Net + Send,
     G: RunLog + Clone + Drop + Send,
-    requires entries { AreBoth settings.now full.now view.now }
+    requires entries { AreBoth settings.now entrances.now.full entrances.now.view }
     requires places { HasPlaces settings.now }
     ensures doors { IfOk result (λ rooms. AreDoorsFor settings.now rooms.doors.items) }
     ensures numbers { IfOk result (λ rooms. AreNumbered rooms.doors.items) }
     ensures seats { IfOk result (λ rooms. length rooms.seats.items ≡ length rooms.doors.items) }
 {
-    let mut rooms = Rooms::new(alloc);
-    rooms.add_full(rt, alloc, settings, full, log)?;
-    rooms.add_all(rt, alloc, view, log)?;
+    let mut rooms = Rooms::new(means.alloc);
+    rooms.add_full(means, settings, &entrances.full)?;
+    rooms.add_all(means, &entrances.view)?;
     Ok(rooms)
 }
 
-/// The doors of all places with their roles, and where their threads wait: those of the viewers, and behind them that of
-/// the recorder, if there is one.
+/// The doors of all places with their roles, and where their threads wait: those of the viewers, and behind them that
+/// of the recorder, if there is one.
 #[tactic(auto, using(crate::proofs::Roles::one_more))]
 pub(crate) fn all_doors<R, G>(
     rooms: Rooms<R, G>,

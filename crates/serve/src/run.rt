@@ -406,6 +406,23 @@ pub(crate) struct OpenedRun<'a> {
     pub(crate) tape: Option<Tape>,
 }
 
+/// Listens for an operator, if the settings have a path for it. Where that fails, the run doesn't begin, and the files
+/// of its recording are taken away again.
+fn control_or_clear<R: Runtime, G>(
+    means: &Means<'_, R, G>,
+    settings: &Settings,
+    reach: RunReach<'_>,
+    tape: &Option<Tape>,
+) -> Result<Option<Control>, Trouble>
+    ensures heard { IfOk result (λ control. is_some control ≡ is_some settings.now.control) }
+{
+    let control = control_of(means.rt, means.alloc, settings, reach);
+    if control.is_err() {
+        clear(means.rt, tape);
+    }
+    control
+}
+
 /// Reflects the hosts of the settings for viewers who come in by the entries that were opened, one for each role that
 /// is served, until the last host ends or an operator stops the run, if one can. `input` tells how much of the viewers'
 /// input waits. It hands out how the run ended, or fails where there was trouble before.
@@ -434,14 +451,7 @@ where
         tape,
     } = opened;
     let hosts = hosts_of(alloc, settings, callers)?;
-    let rooms = rooms_of(
-        rt,
-        alloc,
-        settings,
-        &entrances.full,
-        &entrances.view,
-        means.log,
-    )?;
+    let rooms = rooms_of(means, settings, &entrances)?;
     let Ok(Common { desk, writer, log }) = Common::new(alloc, &entrances, input, means.log) else {
         return Err(Trouble::new(Stage::Start, Fault::Memory));
     };
@@ -451,13 +461,7 @@ where
         player: &hosts.player,
         recording: standing_of(&tape)?,
     };
-    let control = match control_of(&rt, alloc, settings, reach) {
-        Ok(control) => control,
-        Err(trouble) => {
-            clear(&rt, &tape);
-            return Err(trouble);
-        }
-    };
+    let control = control_or_clear(means, settings, reach, &tape)?;
     let (recorder, keeper) = recorder_of(rt, alloc, settings, tape, means.log)?;
     let lifeline = lifeline_of(&control)?;
     let held = lifeline_of(&control)?;

@@ -59,7 +59,7 @@ fn happening_of(incident: &Incident<'_>) -> Option<CountedEvent> {
         | Incident::HostSkipped(..)
         | Incident::RecordingSought
         | Incident::RecordingBad(_) => Some(CountedEvent::HostLeft),
-        Incident::Recording(..) => None,
+        Incident::IndexUnused(..) | Incident::Recording(..) => None,
     }
 }
 

@@ -3,7 +3,7 @@
 ghost use Rattle.std.specs.Prelude.{◌≡◌};
 ghost use Rattle.serve.specs.States.{IsHostReport, IsRecordingReport, IsViewerReport, seconds_from};
 
-use crate::control::Reach;
+use crate::control::{Control, Reach};
 use connections::{HostCard, RunCard, ViewerCard};
 use play_control::ClockTime;
 use player::Played;
@@ -75,7 +75,7 @@ fn recording_report(standing: Standing, bytes: u64, now: u64) -> RecordingReport
 {
     let (state, seconds) = match standing {
         Standing::Awaited => (RecordingState::Awaited, 0),
-        Standing::Begun(since) => (RecordingState::On, seconds_from(since, now)),
+        Standing::Begun(began) => (RecordingState::On, seconds_from(began.millis, now)),
         Standing::Ended => (RecordingState::Ended, 0),
         Standing::Failed(_) => (RecordingState::Failed, 0),
     };
@@ -118,6 +118,13 @@ fn viewers_of<'a>(
     Ok(viewers)
 }
 
+/// What is told now of the recording that is made of the run, if one is.
+fn recording_of<R: Wait>(rt: &R, control: &Control, now: u64) -> Option<RecordingReport> {
+    let recording = control.recording.as_ref()?;
+    let standing = recording.standing(rt);
+    Some(recording_report(standing, recording.bytes(), now))
+}
+
 /// How a run stands, in one of the two forms. Where memory is refused for that it fails.
 pub(crate) fn state<R: Wait + Clock>(
     rt: &R,
@@ -151,14 +158,7 @@ pub(crate) fn state<R: Wait + Clock>(
         view_places: reach.control.view_places,
         waiting: reach.control.writer.input.waiting(rt) as u64,
         dropped: reach.control.writer.input.dropped(),
-        recording: match &reach.control.recording {
-            Some(recording) => Some(recording_report(
-                recording.standing(rt),
-                recording.bytes(),
-                run_card.now,
-            )),
-            None => None,
-        },
+        recording: recording_of(rt, &reach.control, run_card.now),
         viewers: viewers.as_slice(),
     };
     match form {

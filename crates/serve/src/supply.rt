@@ -23,7 +23,7 @@ use connections::{Desk, HostCard, HostListener};
 use fault::Fault;
 use host_turns::{HostEnds, Hosts};
 use playback::BadPlayback;
-use player::Player;
+use player::{Player, UnusedIndex};
 use rfb_wire::Joined;
 use run_traits::{Event, Log, clock_millis};
 use settings::recording_path;
@@ -243,6 +243,7 @@ impl<
             reader,
             writer,
             has_called,
+            unused_index: _,
         } = reached;
         if let Some(lifeline) = &self.lifeline {
             lifeline.hold(&self.rt, HeldHost::new(grip, self.turns.successor()));
@@ -302,6 +303,25 @@ impl<
         }
     }
 
+    /// Tells the log how a try to reach the host of this number ended, unless it ended since the run is to stop.
+    fn tell_try(&self, number: usize, refused: Option<ErrorKind>) {
+        let is_stopped = matches!(refused, Some(ErrorKind::Interrupted));
+        if self.noted_tries.is_noted() && !is_stopped {
+            self.log.note(&Event::HostTried {
+                host: self.text(number),
+                address: self.present,
+                refused,
+            });
+        }
+    }
+
+    /// Tells the log why the index beside the recording of this number isn't used, if it has one that isn't.
+    fn tell_unused(&self, number: usize, unused: Option<UnusedIndex>) {
+        if let (Some(why), Some(path)) = (unused, recording_path(self.text(number))) {
+            self.log.note_incident(&Incident::IndexUnused(path, why));
+        }
+    }
+
     /// Tries to reach the host of this number, whose turn it is, and tells the log how the try ended, unless it ended
     /// since the run is to stop.
     fn reach(&mut self, number: usize) -> Result<HostEnds<HostEnd<R>>, Missed>
@@ -329,16 +349,12 @@ impl<
                 Some(missed.error.kind())
             }
         };
-        let is_stopped = matches!(refused, Some(ErrorKind::Interrupted));
-        if self.noted_tries.is_noted() && !is_stopped {
-            self.log.note(&Event::HostTried {
-                host: self.text(number),
-                address: self.present,
-                refused,
-            });
-        }
+        self.tell_try(number, refused);
         match tried {
-            Ok(reached) => Ok(self.take_up(reached)),
+            Ok(reached) => {
+                self.tell_unused(number, reached.unused_index);
+                Ok(self.take_up(reached))
+            }
             Err(missed) => {
                 self.noted_tries.fail(&self.rt);
                 Err(missed)

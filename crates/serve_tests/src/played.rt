@@ -24,6 +24,9 @@ const RECORDED: &[u8] = b"FBS 001.000\n\0\0\0\x43\
 /// Its index: the second block is a key moment. It begins behind 88 bytes.
 const INDEX: &[u8] = b"FBI 001.000\n\0\x36\xEE\x80\0\0\0\0\0\0\0\x58";
 
+/// The index of another recording: it has the same time, and a place at which this one's first block begins.
+const OTHER_INDEX: &[u8] = b"FBI 001.000\n\0\x36\xEE\x80\0\0\0\0\0\0\0\x0C";
+
 /// Where its second block begins, in bytes.
 const SECOND_BLOCK: usize = 88;
 
@@ -73,8 +76,9 @@ const IT_IS_PLAYED: &[Act] = &[Act {
 }];
 
 /// Recordings that don't end between two messages, while the run of another one makes a pause. One that ends inside a
-/// message has ended all the same, and one that can't be played on is told of with the reason. Each run has a port of
-/// its own, which its porter keeps until the process ends.
+/// message has ended all the same, and one that can't be played on is told of with the reason. One beside which another
+/// recording's index stands is heard from its beginning on, to its end. Each run has a port of its own, which its
+/// porter keeps until the process ends.
 const THEY_BREAK_OFF: &[Act] = &[Act {
     who: VIEWER,
     deeds: &[
@@ -99,6 +103,11 @@ const THEY_BREAK_OFF: &[Act] = &[Act {
             "serve --host file:no-recording.fbs --view-only --view-places 1 --view |web_view|",
             "\nreflectord: can't play the recording of file:no-recording.fbs: the file does not begin as a recording does\n",
             FAULT,
+        ),
+        Deed::Runs(
+            "serve --log --host file:other.fbs --from 01:00:00 --view-only --view-places 1 --view |full|",
+            "index-unused recording=\"other.fbs\" why=\"the index is of another recording\"",
+            0,
         ),
         Deed::IsObeyed("stop\n", "|done\n|"),
         Deed::Does(Step::Removes),
@@ -170,13 +179,14 @@ const BREAKS: &[Play<'static>] = &[Play {
     lines: &[
         "listening role=view address=127.0.0.1:|view| places=1",
         "host-tried recording=\"paused.fbs\" why=\"opened\"",
+        "index-unused recording=\"paused.fbs\" why=\"the file does not begin as an index does\"",
         "host-joined address=- width=2 height=1 name=\"T\"",
         "host-out address=- why=\"ended\"",
     ],
 }];
 
-/// Lines that write the index of a recording, and the exit status of each. It isn't written over, and none is written of
-/// what is no recording.
+/// Lines that write the index of a recording, and the exit status of each. It isn't written over, and none is written
+/// of what is no recording.
 const INDEXES: &[(&str, u8)] = &[
     ("show played.fbs --index", 0),
     ("show --index played.fbs", FAULT),
@@ -215,7 +225,10 @@ fn recordings_are_played(rt: HostRuntime) -> Result<(), Fail> {
 #[test]
 fn recordings_break_off(rt: HostRuntime) -> Result<(), Fail> {
     fs::write(&rt, "no-recording.fbs", INDEX)?;
+    fs::write(&rt, "other.fbs", RECORDED)?;
+    fs::write(&rt, "other.fbi", OTHER_INDEX)?;
     write_beginning(&rt, "paused.fbs", &[])?;
+    fs::write(&rt, "paused.fbi", RECORDED)?;
     write_beginning(&rt, "broken-off.fbs", BROKEN_OFF)?;
     write_beginning(&rt, "too-long.fbs", TOO_LONG)?;
     perform_all(rt, rt.alloc(), BREAKS)
