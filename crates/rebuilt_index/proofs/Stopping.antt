@@ -113,7 +113,8 @@ pub main_stops : (main : Follower) (candidate : Option Candidate) (moments : Lis
     → ((w h : ℕ) (stream : List ℕ) → Follows w h main stream → (fault ≡ Memory) ⊎ (rest (host_message w h) (stream ++ said) ≡ Faulty fault)) → StopsSession fault blocks
 main_stops main candidate moments last blocks said fault s why = main_by main candidate moments last blocks said fault s (why s.joined.w s.joined.h s.stream s.main)
 
--- Who has followed from a block on that begins between two messages finds the fault that one finds who has followed all.
+-- Who has followed from a block on that begins between two messages finds the fault that one finds who has followed
+-- all.
 tried_bad : (w h : ℕ) (hello stream : List ℕ) (blocks : List Block) (said : List ℕ) (t : Candidate) (fault : Fault) → (k : IsTried w h hello stream blocks said t)
     → ((fault ≡ Memory) ⊎ (rest (host_message w h) (k.fed ++ said) ≡ Faulty fault)) → (fault ≡ Memory) ⊎ (rest (host_message w h) (stream ++ said) ≡ Faulty fault)
 tried_bad w h hello stream blocks said t fault k (inl memory) = inl memory

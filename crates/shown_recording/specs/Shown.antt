@@ -35,8 +35,8 @@ pub record IsScreenAfter (s : Setup) (us : List Update) (picture : Shown) (n : �
   pub high : picture.height ≡ s.h
   pub shows : LooksLike s.w s.h (value_at s.w picture.colours) (screen (take n us))
 
--- The first picture shows the screen as it was after some number of the updates, and the second as it was after at least
--- so many.
+-- The first picture shows the screen as it was after some number of the updates, and the second as it was after at
+-- least so many.
 pub record AreScreensInOrder (s : Setup) (us : List Update) (one other : Shown) : Type 0 where
   pub earlier : ℕ
   pub later : ℕ
